@@ -1,0 +1,62 @@
+-- `rows::put_row` meets its contract: the three stores are the row's words in order. Assumes nothing.
+use mathlib.Core.Path.{_≡_}
+use Prim.Native.Nat.{suc, _+_, _*_}
+use native.Mathlib.Omega.{arith}
+use borrow.Author.Needs.{needs}
+use lib.ListN.{length-set}
+use Rattle.format.specs.Row.{rowWidth}
+use Rattle.rows.proofs.put_row.Statement.{statement}
+use Rattle.rows.proofs.put_row.Tie as tie
+
+mul-at : tie.Need-mul-at
+mul-at c = search needs
+
+mul-rows : tie.Need-mul-rows
+mul-rows c = search needs
+
+slice-write-rows : tie.Need-slice-write-rows
+slice-write-rows c = search needs
+
+add-rows : tie.Need-add-rows
+add-rows c = search needs
+
+mul-rows-2 : tie.Need-mul-rows-2
+mul-rows-2 c = search needs
+
+slice-write-rows-2 : tie.Need-slice-write-rows-2
+slice-write-rows-2 c = simp length-set (omega arith)
+
+add-rows-2 : tie.Need-add-rows-2
+add-rows-2 c = search needs
+
+mul-rows-3 : tie.Need-mul-rows-3
+mul-rows-3 c = search needs
+
+slice-write-rows-3 : tie.Need-slice-write-rows-3
+slice-write-rows-3 c = simp length-set (omega arith)
+
+same-length : tie.Need-same-length
+same-length c = search needs
+
+returns : tie.Need-returns
+returns c =
+    let at = rowWidth * c .args .n in
+    let one : at + 1 ≡ suc at = omega arith in
+    let two : at + 2 ≡ suc (suc at) = omega arith in
+    simp (one, two)
+
+pub put-row-spec : {M : Type 1} → statement M
+put-row-spec =
+    tie.close
+    (tie.spec
+    mul-at
+    mul-rows
+    slice-write-rows
+    add-rows
+    mul-rows-2
+    slice-write-rows-2
+    add-rows-2
+    mul-rows-3
+    slice-write-rows-3
+    same-length
+    returns)

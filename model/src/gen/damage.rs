@@ -1,0 +1,175 @@
+//! Damage to what was sound: bytes, nodes, rows, and messages piece by piece.
+
+use super::trees::EDGE_WORDS;
+use crate::label;
+use crate::rng::Rng;
+use crate::spell::Pieces;
+use crate::table::{self, Node};
+
+/// Labels with a meaning somewhere, and their neighbours.
+pub const EDGE_LABELS: [i64; 20] = [
+    i64::MIN,
+    -66,
+    -65,
+    -64,
+    -8,
+    -6,
+    -5,
+    -4,
+    -3,
+    -2,
+    -1,
+    0,
+    1,
+    2,
+    3,
+    63,
+    64,
+    8_192,
+    65_537,
+    i64::MAX,
+];
+
+/// Bytes that are no label: not shortest, over 64 bits, or cut if they stand last.
+pub const NO_LABELS: [&[u8]; 8] = [
+    b"\x80\x00",
+    b"\x81\x00",
+    b"\xff\xff\x00",
+    b"\xff\xff\xff\xff\xff\xff\xff\xff\xff\x02",
+    b"\xff\xff\xff\xff\xff\xff\xff\xff\xff\x00",
+    b"\xff\xff\xff\xff\xff\xff\xff\xff\xff\x81\x01",
+    b"\x80\x80\x80\x80\x80\x80\x80\x80\x80\x80\x01",
+    b"\xff",
+];
+
+/// Flip, set, insert, delete, cut or append.
+pub fn bytes(rng: &mut Rng, bytes: &mut Vec<u8>) {
+    let len = bytes.len();
+    let at = rng.below(len);
+    match rng.below(8) {
+        0 | 1 if len > 0 => bytes[at] ^= 1 << rng.below(8),
+        2 | 3 if len > 0 => bytes[at] = rng.pick(&[0, 1, 2, 3, 4, 5, 6, 7, 0x7f, 0x80, 0xfe, 0xff]),
+        4 => bytes.insert(rng.below(len + 1), rng.byte()),
+        5 if len > 0 => {
+            bytes.remove(at);
+        }
+        6 => bytes.truncate(at),
+        _ => bytes.push(rng.pick(&[0, 1, 2, 0x41, 0x80, 0xff])),
+    }
+}
+
+/// One change among the nodes; the count in the file follows them.
+pub fn nodes(rng: &mut Rng, nodes: &mut Vec<Node>) {
+    let at = rng.below(nodes.len());
+    match rng.below(11) {
+        0 => nodes[at].kind = rng.below(13) as u8,
+        1 => nodes[at].flags = rng.pick(&[0, 1, 2, 3, 4, 8, 0x80, 0xff]),
+        2 => nodes[at].argument = rng.pick(&[0, 1, 2, 3, 31, 32, 255, 256, 4_096, 4_097, 65_535]),
+        3 => {
+            nodes.remove(at);
+        }
+        4 => nodes.insert(at, Node::new(1 + rng.below(10) as u8, 0, 0)),
+        5 => {
+            let other = rng.below(nodes.len());
+            nodes.swap(at, other);
+        }
+        6 => nodes.push(Node::new(table::BOOLEAN, 0, 0)),
+        7 => {
+            let record = nodes.iter().position(|node| node.kind == table::RECORD);
+            let at = record.unwrap_or(at);
+            let step = rng.pick(&[1, u16::MAX]);
+            nodes[at].argument = nodes[at].argument.wrapping_add(step);
+        }
+        // Another key, length or flag: refusal 15 if the key is used elsewhere.
+        _ => {
+            let blocks: Vec<usize> = (0..nodes.len())
+                .filter(|&i| nodes[i].kind == table::BLOCK)
+                .collect();
+            if let Some(&first) = blocks.first() {
+                let block = rng.pick(&blocks);
+                match rng.below(3) {
+                    0 => nodes[block].argument = nodes[first].argument,
+                    1 => nodes[block].flags ^= table::DEDUPLICATE,
+                    _ => {
+                        if let Some(child) = nodes.get_mut(block + 1) {
+                            child.argument ^= 1;
+                        }
+                    }
+                }
+            }
+        }
+    }
+    if nodes.is_empty() {
+        nodes.push(Node::new(table::NULLABLE, 0, 0));
+    }
+}
+
+/// One change in a row list.
+pub fn rows(rng: &mut Rng, rows: &mut Vec<u64>) {
+    let count = rows.len() / 3;
+    let row = rng.below(count);
+    let word = rng.below(rows.len());
+    match rng.below(9) {
+        0 if count > 0 => rows[3 * row] = rng.below(13) as u64,
+        1 if count > 0 => rows[word] = rng.pick(&EDGE_WORDS),
+        2 if count > 0 => rows[word] = rows[word].wrapping_add(1),
+        3 if count > 0 => rows[word] = rows[word].wrapping_sub(1),
+        4 if count > 0 => {
+            rows.drain(3 * row..3 * row + 3);
+        }
+        5 => {
+            let at = 3 * rng.below(count + 1);
+            let kind = rng.below(11) as u64;
+            rows.splice(at..at, [kind, 0, 0]);
+        }
+        6 => rows.truncate(3 * row),
+        7 if rng.one_in(3) => rows.truncate(word),
+        _ if count > 0 => {
+            let other = rng.below(count);
+            for i in 0..3 {
+                rows.swap(3 * row + i, 3 * other + i);
+            }
+        }
+        _ => rows.push(0),
+    }
+}
+
+/// One change inside the pieces, whose own labels follow it. Faults of the walk
+/// come of these; faults of the pieces come of damaged bytes.
+pub fn pieces(rng: &mut Rng, pieces: &mut Pieces) {
+    let labels = pieces.labels.len();
+    match rng.below(10) {
+        0..=3 if labels > 0 => {
+            let at = pieces.labels[rng.below(labels)];
+            if at >= pieces.core.len() {
+                return;
+            }
+            let end = label::get(&pieces.core, at).map_or(at + 1, |(_, end)| end);
+            let mut other = Vec::new();
+            if rng.one_in(4) {
+                other.extend(rng.pick(&NO_LABELS));
+            } else {
+                label::put(rng.pick(&EDGE_LABELS), &mut other);
+            }
+            pieces.core.splice(at..end, other);
+        }
+        4 => bytes(rng, &mut pieces.core),
+        5 | 6 if !pieces.blocks.is_empty() => {
+            let block = rng.below(pieces.blocks.len());
+            bytes(rng, &mut pieces.blocks[block]);
+        }
+        7 if !pieces.blocks.is_empty() => {
+            pieces.blocks.remove(rng.below(pieces.blocks.len()));
+        }
+        8 => {
+            let block = vec![b'x'; rng.below(3)];
+            let at = rng.below(pieces.blocks.len() + 1);
+            pieces.blocks.insert(at, block);
+        }
+        9 if pieces.blocks.len() > 1 => {
+            let other = rng.below(pieces.blocks.len());
+            pieces.blocks.swap(0, other);
+        }
+        _ => pieces.header = rng.pick(&[0, 2, 8, 10, 64, 66, 72, 74, 1, 4, 16, 32, 128]),
+    }
+}
