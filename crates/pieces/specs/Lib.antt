@@ -1,0 +1,3 @@
+pub mod Header
+pub mod Chain
+pub mod Pieces
