@@ -1,0 +1,4 @@
+-- Lemmas that the proofs cite.
+mod Stores
+mod Slots
+mod Literals

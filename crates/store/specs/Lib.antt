@@ -1,0 +1,6 @@
+-- The store, what its words mean, and its laws, in reading order.
+pub mod Store
+pub mod Lists
+pub mod Words
+pub mod Meaning
+pub mod Laws
