@@ -1,0 +1,13 @@
+pub mod Plan
+pub mod Layout
+pub mod Slots
+pub mod Laws
+pub mod Before
+pub mod Follow
+pub mod Moves
+pub mod Count
+pub mod Laid
+pub mod Regions
+pub mod Put
+pub mod Passes
+pub mod Examples

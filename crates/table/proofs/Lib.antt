@@ -1,0 +1,4 @@
+mod Tests
+mod Trees
+mod Notes
+mod Chain

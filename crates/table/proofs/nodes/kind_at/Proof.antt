@@ -1,0 +1,22 @@
+-- `table::nodes::kind_at` meets its contract.
+use mathlib.Core.Path.{refl}
+use Rattle.format.specs.Table.{nodeAt}
+use borrow.Author.Needs.{needs}
+use Rattle.table.proofs.nodes.kind_at.Statement.{statement}
+use Rattle.table.proofs.nodes.kind_at.Tie as tie
+
+mul-result : tie.Need-mul-result
+mul-result c = search needs
+
+add-result : tie.Need-add-result
+add-result c = search needs
+
+shared-slice-read-result : tie.Need-shared-slice-read-result
+shared-slice-read-result c = search needs
+
+returns : tie.Need-returns
+unfolding nodeAt
+returns c = refl
+
+pub kind-at-spec : {M : Type 1} → statement M
+kind-at-spec = tie.close (tie.spec mul-result add-result shared-slice-read-result returns)
