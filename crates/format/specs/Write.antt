@@ -2,7 +2,7 @@
 use mathlib.Core.Bool.{Bool, true, false, cond, _&&_}
 use mathlib.Core.List.{List, [], _∷_, _++_}
 use mathlib.Core.Option.{Option, none, some}
-use Prim.Native.Nat.{ℕ, zero, suc, _+_, _*_, _/_, _%_, _^_, min}
+use Prim.Native.Nat.{ℕ, zero, suc, _+_, _/_, _%_, _^_, min}
 use lib.Dec.{ltb, leb, eqb}
 use lib.IntN.{ℤ, pos}
 use lib.ListN.{length, getD}
@@ -11,7 +11,7 @@ use Rattle.format.specs.Label.{label, integer}
 use Rattle.format.specs.Utf8.{isText}
 use Rattle.format.specs.Modes.{inlineEverything, areAllowed, header}
 use Rattle.format.specs.Table.{Wire, boolean, array, fields, block, Node, plain, nullable, Fields, noField, field, Leaf, string, varint, float64, bytes, fixed, Held, Schema, check}
-use Rattle.format.specs.Row.{Row, bare, placed, Text, Cell, shown, rowCount, rowWidth, nullRow, absentRow, falseRow, trueRow, integerRow, floatRow, stringRow, bytesRow, fixedRow, recordRow, arrayRow}
+use Rattle.format.specs.Row.{bare, placed, Text, Cell, shown, rowCount, rowWidth, nullRow, absentRow, falseRow, trueRow, integerRow, floatRow, stringRow, bytesRow, fixedRow, recordRow, arrayRow}
 use Rattle.format.specs.Read.{nullLabel, absentLabel, numberLabel, addAt, noLiterals, fieldCount, isNumbered}
 
 -- What one row writes: a label or none, and then nothing, a text of a key, or an unlabelled value of a key.
