@@ -9,9 +9,9 @@ use lib.Seq.{getD-set-same, getD-set-other}
 use Rattle.format.specs.Row.{Place}
 use Rattle.format.specs.Read.{Reading}
 use Rattle.store.specs.Lists.{upto, upto-ext, sum-ext, sum-most}
-use Rattle.store.specs.Store.{Store, empty}
-use Rattle.store.specs.Words.{word, keyOf, indexOf, slotCount, slotOf, slotsOf, taken, allOf, countOf, pages, pageOf, cellAt, literalOf, literalsOf, GoodSlots, GoodLiterals, Changes}
-use Rattle.store.specs.Laws.{good-empty, store-empty}
+use Rattle.store.specs.Store.{Store, empty, unnumbered}
+use Rattle.store.specs.Words.{word, keyOf, indexOf, slotCount, slotOf, slotsOf, taken, allOf, countOf, pages, pageOf, cellAt, literalOf, literalsOf, storeOf, GoodSlots, GoodLiterals, Good, Changes}
+use Rattle.store.specs.Laws.{good-none, literals-none, good-empty, store-empty}
 
 pub by-eq : {P : Type 0} (a b : ℕ) → (a ≡ b → P) → ((a ≡ b → ⊥) → P) → P
 by-eq {P} a b f g = go (ℕ-discrete a b)
@@ -86,25 +86,37 @@ module _ (w w′ : List ℕ) (e : (i : ℕ) → 1155 ≤ i → word w′ i ≡ w
         apart = λ k i k′ i′ h h′ b b′ q. g .apart k i k′ i′ h h′ (rw (c k) at b) (rw (c k′) at b′) (sym (p k i) ∙ q ∙ p k′ i′);
       }
 
--- ---- zeros from word 1120 up to word i, and the caller's words as they were
+-- ---- zeros from word a up to word i, and the words below as they were
 
-pub record Zeros (w w′ : List ℕ) (i : ℕ) : Type 0 where
+pub record Zeros (a : ℕ) (w w′ : List ℕ) (i : ℕ) : Type 0 where
   pub size : length w′ ≡ length w
-  pub outside : (j : ℕ) → j < 1024 → word w′ j ≡ word w j
-  pub zeros : (j : ℕ) → 1120 ≤ j → j < i → word w′ j ≡ 0
+  pub below : (j : ℕ) → j < a → word w′ j ≡ word w j
+  pub zeros : (j : ℕ) → a ≤ j → j < i → word w′ j ≡ 0
 
-pub zeros-none : (w : List ℕ) → Zeros w w 1120
-zeros-none w = record { size = refl; outside = λ j h. refl; zeros = λ j h b. absurd (omega arith) }
+pub zeros-none : (a : ℕ) (w : List ℕ) → Zeros a w w a
+zeros-none a w = record { size = refl; below = λ j h. refl; zeros = λ j h b. absurd (omega arith) }
 
-pub zeros-more : (w w′ : List ℕ) (i : ℕ) → 1120 ≤ i → i < length w′ → Zeros w w′ i → Zeros w (set w′ i 0) (i + 1)
-zeros-more w w′ i h b z = record {
+pub zeros-more : (a : ℕ) (w w′ : List ℕ) (i : ℕ) → a ≤ i → i < length w′ → Zeros a w w′ i → Zeros a w (set w′ i 0) (i + 1)
+zeros-more a w w′ i h b z = record {
   size = length-set w′ i 0 ∙ z .size;
-  outside = λ j y. skip w′ i 0 j (omega arith) ∙ z .outside j y;
+  below = λ j y. skip w′ i 0 j (omega arith) ∙ z .below j y;
   zeros = λ j y x. by-eq j i (λ e. rw e (hit w′ i 0 b)) (λ o. skip w′ i 0 j o ∙ z .zeros j y (omega arith));
 }
 
-pub clear-is : (w w′ : List ℕ) (i : ℕ) → 16384 ≤ length w → 1216 ≤ i → Zeros w w′ i → Changes w w′ (λ s. empty)
+pub clear-is : (w w′ : List ℕ) (i : ℕ) → 16384 ≤ length w → 1216 ≤ i → Zeros 1120 w w′ i → Changes w w′ (λ s. empty)
 clear-is w w′ i h b z =
     let h₁ : 16384 ≤ length w′ = omega (arith, z .size) in
     let y : (j : ℕ) → 1120 ≤ j → j < 1216 → word w′ j ≡ 0 = λ j x x₁. z .zeros j x (omega arith) in
-    record { good = good-empty w′ h₁ y; store = store-empty w′ h₁ y; size = z .size; outside = z .outside }
+    record { good = good-empty w′ h₁ y; store = store-empty w′ h₁ y; size = z .size; outside = λ j x. z .below j (omega arith) }
+
+pub forget-is : (w w′ : List ℕ) (i : ℕ) → Good w → 1216 ≤ i → Zeros 1155 w w′ i → Changes w w′ unnumbered
+unfolding storeOf
+forget-is w w′ i g b z =
+    let y : (j : ℕ) → 1155 ≤ j → j < 1216 → word w′ j ≡ 0 = λ j x x₁. z .zeros j x (omega arith) in
+    let s = slots-below w w′ (g .slots) (λ j x. z .below j (omega arith)) in
+    record {
+      good = record { whole = omega (arith, z .size, g .whole); slots = s .0; literals = good-none w′ y };
+      store = store-eq (s .1) (reading-eq (z .below 1153 (omega arith)) (z .below 1154 (omega arith))) (literals-none w′ y);
+      size = z .size;
+      outside = λ j x. z .below j (omega arith);
+    }

@@ -43,3 +43,7 @@ rested p s = record { slots = s .slots; rest = p; literals = s .literals }
 
 abbrev pub added : ℕ → Place → Store → Store
 added k x s = record { slots = s .slots; rest = s .rest; literals = addAt k x (s .literals) }
+
+-- and no literals any more
+abbrev pub unnumbered : Store → Store
+unnumbered s = record { slots = s .slots; rest = s .rest; literals = noLiterals }

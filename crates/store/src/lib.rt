@@ -6,7 +6,7 @@ ghost use mathlib.Core.Option.{none, some};
 ghost use Prim.Native.Nat.{_+_, _*_, _/_, _%_, _<_, _≤_, _^_};
 ghost use lib.ListN.{length, getD};
 ghost use Rattle.format.specs.Read.{nth, total as totalOf};
-ghost use Rattle.store.specs.Store.{empty, lookup, opened, advanced, rested, added};
+ghost use Rattle.store.specs.Store.{empty, lookup, opened, advanced, rested, added, unnumbered};
 ghost use Rattle.store.specs.Words.{storeOf, Good, Changes, pages as pagesOf, allOf, nextPage, Written};
 ghost use Rattle.store.specs.Meaning.{place, reading, touched, slot, Small};
 
@@ -82,6 +82,18 @@ pub fn clear(work: &mut [u32])
     ensures { λ _. ⌜ Changes (now (work .entry)) (now (work .exit)) (λ s. empty) ⌝ }
 {
     let mut i = INDEX;
+    while i < COUNT_END {
+        work[i] = 0;
+        i += 1;
+    }
+}
+
+// No literals any more. The slots and the place of no key stay.
+pub fn forget(work: &mut [u32])
+    requires { ⌜ Good (now work) ⌝ }
+    ensures { λ _. ⌜ Changes (now (work .entry)) (now (work .exit)) unnumbered ⌝ }
+{
+    let mut i = TAKEN;
     while i < COUNT_END {
         work[i] = 0;
         i += 1;

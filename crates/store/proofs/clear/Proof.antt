@@ -7,13 +7,13 @@ use Rattle.store.proofs.clear.Statement.{statement}
 use Rattle.store.proofs.clear.Tie as tie
 
 abbrev Inv-loop : tie.InvT-loop
-Inv-loop work₀ i₀ work i = (1120 ≤ i) × Zeros work₀ work i
+Inv-loop work₀ i₀ work i = (1120 ≤ i) × Zeros 1120 work₀ work i
 
 abbrev μ-loop : tie.MeasureT-loop
 μ-loop work₀ i₀ work i = 1216 - i
 
 loop-holds : tie.Need-loop-holds Inv-loop μ-loop
-loop-holds c = (omega arith, zeros-none (now (c .args .work)))
+loop-holds c = (omega arith, zeros-none 1120 (now (c .args .work)))
 
 mul-work : tie.Need-mul-work Inv-loop μ-loop
 mul-work c = omega arith
@@ -31,7 +31,7 @@ loop-again : tie.Need-loop-again Inv-loop μ-loop
 loop-again c =
     let s = c .before .before in
     let x = c .before .loop in
-    (omega arith, zeros-more (now (s .args .work)) (x .work) (x .i) (x .inv .0) (omega (arith, x .inv .1 .size)) (x .inv .1))
+    (omega arith, zeros-more 1120 (now (s .args .work)) (x .work) (x .i) (x .inv .0) (omega (arith, x .inv .1 .size)) (x .inv .1))
 
 same-length : tie.Need-same-length Inv-loop μ-loop
 same-length c = c .before .loop .inv .1 .size
