@@ -1,0 +1,129 @@
+// Reading a message into rows.
+ghost use mathlib.Core.Path.{_≡_};
+ghost use Prim.Native.Nat.{_<_, _≤_, _^_};
+ghost use lib.ListN.{length};
+ghost use Rattle.format.specs.Answer.{number, second, output, zeros};
+ghost use Rattle.format.specs.Row.{words};
+ghost use Rattle.format.specs.Read.{read as readOf};
+ghost use Rattle.typed.specs.Typed.{Kept};
+ghost use Rattle.reader.specs.Reader.{isSized, rowsOf, Begins, Gives, usedBy, Answers, Stays};
+
+mod done;
+
+use label::Cursor;
+use leaf::Step;
+use pieces::Header;
+use pieces::Parts;
+use table::Answer;
+
+// Where the core stands, or the message is not cut into pieces.
+pub enum Begun {
+    Core(Cursor),
+    Bad,
+}
+
+fn is_sized(m: &[u8]) -> bool
+    ensures { λ r. ⌜ r ≡ isSized (now (m .entry)) ⌝ }
+{
+    if m.len() < 1 {
+        return false;
+    }
+    m.len() <= 65536
+}
+
+// The work holds what a walk begins with: no key is touched, and all blocks wait.
+fn begin(m: &[u8], work: &mut [u32], modes: u64) -> Begun
+    requires { ⌜ (16384 ≤ length (now work)) × (1 ≤ length (now m)) × (length (now m) ≤ 65536) ⌝ }
+    ensures { λ r. ⌜ Begins (now (m .entry)) modes (now (work .entry)) (now (work .exit)) r ⌝ }
+{
+    store::clear(work);
+    // InlineEverything: the rest of the message is the core
+    if modes % 2 == 1 {
+        let end = m.len();
+        store::set_rest(work, end, end);
+        return Begun::Core(Cursor { at: 1, end });
+    }
+    let Parts::Found(core, rest) = pieces::part(m) else {
+        return Begun::Bad;
+    };
+    store::set_rest(work, rest.at, rest.end);
+    Begun::Core(core)
+}
+
+// The rows from the first on, and how many there are.
+fn rows_of(table: &[u8], m: &[u8], rows: &mut [u64], work: &mut [u32]) -> Step
+    requires { ⌜ Kept (now table) (now work) ⌝ }
+    ensures { λ r. ⌜ Gives (now (table .entry)) (now (rows .entry)) (now (rows .exit)) (now (work .exit)) r (rowsOf (now (table .entry)) (now (m .entry)) (length (now (rows .entry)))) ⌝ }
+{
+    if !is_sized(m) {
+        return Step::Refused(20);
+    }
+    let Header::Modes(modes) = pieces::read_header(m[0]) else {
+        return Step::Refused(21);
+    };
+    let Begun::Core(core) = begin(m, work, modes) else {
+        return Step::Refused(22);
+    };
+    let r = walk::value(table, m, rows, work, modes, 0, false, core, 0, 32);
+    let Step::Done(end, _) = r else {
+        return r;
+    };
+    if !done::is_done(work, end) {
+        return Step::Refused(30);
+    }
+    r
+}
+
+// How many words of the rows are the answer's: none after a refusal.
+fn used_words(r: Step) -> usize
+    requires { ⌜ usedBy r < 2 ^ 64 ⌝ }
+    ensures { λ used. ⌜ used ≡ usedBy r ⌝ }
+{
+    match r {
+        Step::Refused(_) => 0,
+        Step::Done(_, count) => 3 * count,
+    }
+}
+
+fn answer_of(r: Step) -> Answer
+    ensures { λ answer. ⌜ Answers r answer ⌝ }
+{
+    match r {
+        Step::Refused(number) => Answer { number, second: 0 },
+        Step::Done(_, count) => Answer {
+            number: 0,
+            second: count as u64,
+        },
+    }
+}
+
+// For a table that was checked, with the work as the check has kept it. Where the message is read, the work is right
+// for another one.
+pub fn read_checked(table: &[u8], message: &[u8], rows: &mut [u64], work: &mut [u32]) -> Answer
+    requires { ⌜ Kept (now table) (now work) ⌝ }
+    ensures { λ r. ⌜ r .number ≡ number (rowsOf (now (table .entry)) (now (message .entry)) (length (now (rows .entry)))) ⌝ }
+    ensures { λ r. ⌜ r .second ≡ second (λ rs. length rs) (rowsOf (now (table .entry)) (now (message .entry)) (length (now (rows .entry)))) ⌝ }
+    ensures { λ r. ⌜ now (rows .exit) ≡ output words (length (now (rows .entry))) (rowsOf (now (table .entry)) (now (message .entry)) (length (now (rows .entry)))) ⌝ }
+    ensures { λ _. ⌜ Stays (now (table .entry)) (now (work .exit)) (rowsOf (now (table .entry)) (now (message .entry)) (length (now (rows .entry)))) ⌝ }
+{
+    let r = rows_of(table, message, rows, work);
+    let used = used_words(r);
+    zero::zero_rows(&mut rows[used..]);
+    answer_of(r)
+}
+
+pub fn read(table: &[u8], message: &[u8], rows: &mut [u64], work: &mut [u32]) -> Answer
+    ensures { λ r. ⌜ r .number ≡ number (readOf (length (now (work .entry))) (now (table .entry)) (now (message .entry)) (length (now (rows .entry)))) ⌝ }
+    ensures { λ r. ⌜ r .second ≡ second (λ rs. length rs) (readOf (length (now (work .entry))) (now (table .entry)) (now (message .entry)) (length (now (rows .entry)))) ⌝ }
+    ensures { λ r. ⌜ now (rows .exit) ≡ output words (length (now (rows .entry))) (readOf (length (now (work .entry))) (now (table .entry)) (now (message .entry)) (length (now (rows .entry)))) ⌝ }
+    ensures { λ _. ⌜ now (work .exit) ≡ zeros (length (now (work .entry))) ⌝ }
+{
+    let checked = table::check_keeping(table, work);
+    if checked.number != 0 {
+        zero::zero_rows(rows);
+        return checked;
+    }
+    let r = read_checked(table, message, rows, work);
+    zero::zero_words(work);
+    r
+}

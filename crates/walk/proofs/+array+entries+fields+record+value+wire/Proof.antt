@@ -1,0 +1,509 @@
+use borrow.Author.Needs.{needs}
+use native.Mathlib.Omega.{arith}
+use denote.Ref.{now}
+use mathlib.Core.Path.{_≡_, refl, ap, sym, _∙_}
+use mir.Syntax.{w64}
+use mir.ValLaws.{toZ-ofZ}
+use lib.Dec.{eqb}
+use Prim.Native.Nat.{_+_, _*_}
+use Rattle.typed.specs.Nodes.{node-inside, wire-inside, block-inside, fits-entry}
+use Rattle.walk.proofs.Loops.{EntriesAt, entries-begin, entries-fits, entries-not, entries-again, entries-end, FieldsAt, fields-begin, fields-fits, fields-not, fields-again, fields-end}
+use Rattle.walk.proofs.Values.{value-refused, value-gone, value-here, opened-inside, value-fits, record-24, record-31, record-then, record-fits, array-23, array-24, array-31, array-then, own-inside, boolean-reads}
+use Prim.Native.Nat.{ℕ, _<_}
+use borrow.Fn.Kinds.{In}
+use borrow.Fn.PlainCycle.{Measures, is, falls, and}
+use Rattle.walk.proofs.array.Reads as array
+use Rattle.walk.proofs.array.Kinds as array-kinds
+use Rattle.walk.proofs.+array+entries+fields+record+value+wire.Lts-array as array-lts
+use Rattle.walk.proofs.entries.Reads as entries
+use Rattle.walk.proofs.entries.Kinds as entries-kinds
+use Rattle.walk.proofs.+array+entries+fields+record+value+wire.Lts-entries as entries-lts
+use Rattle.walk.proofs.fields.Reads as fields
+use Rattle.walk.proofs.fields.Kinds as fields-kinds
+use Rattle.walk.proofs.+array+entries+fields+record+value+wire.Lts-fields as fields-lts
+use Rattle.walk.proofs.record.Reads as «record»
+use Rattle.walk.proofs.record.Kinds as record-kinds
+use Rattle.walk.proofs.+array+entries+fields+record+value+wire.Lts-record as record-lts
+use Rattle.walk.proofs.value.Reads as value
+use Rattle.walk.proofs.value.Kinds as value-kinds
+use Rattle.walk.proofs.+array+entries+fields+record+value+wire.Lts-value as value-lts
+use Rattle.walk.proofs.wire.Reads as wire
+use Rattle.walk.proofs.wire.Kinds as wire-kinds
+use Rattle.walk.proofs.+array+entries+fields+record+value+wire.Lts-wire as wire-lts
+use Rattle.leaf.proofs.boolean.Reads as boolean-reads
+use Rattle.leaf.proofs.front.is_bare.Reads as is-bare-reads
+use Rattle.leaf.proofs.front.own_label.Reads as own-label-reads
+use Rattle.leaf.proofs.front.size_of.Reads as size-of-reads
+use Rattle.leaf.proofs.push.push.Reads as push-reads
+use Rattle.leaf.proofs.push.row.Reads as row-reads
+use Rattle.table.proofs.nodes.argument_at.Reads as argument-at-reads
+use Rattle.table.proofs.nodes.end_at.Reads as end-at-reads
+use Rattle.table.proofs.nodes.is_omittable.Reads as is-omittable-reads
+use Rattle.table.proofs.nodes.kind_at.Reads as kind-at-reads
+use Rattle.walk.proofs.block.Reads as block-reads
+use Rattle.walk.proofs.opening.below.Reads as below-reads
+use Rattle.walk.proofs.opening.open.Reads as open-reads
+use Rattle.walk.proofs.+array+entries+fields+record+value+wire.{statement}
+use Rattle.walk.proofs.+array+entries+fields+record+value+wire.Tie.{close}
+
+abbrev μ-array : Measures 4 array-kinds.ps ℕ
+μ-array κs a = 4 * a .1 .1 .1 .1 .1 .1 .1 .1 .1 .0
+
+abbrev μ-entries : Measures 4 entries-kinds.ps ℕ
+μ-entries κs a = 4 * a .1 .1 .1 .1 .1 .1 .1 .1 .0 + 3
+
+abbrev μ-fields : Measures 4 fields-kinds.ps ℕ
+μ-fields κs a = 4 * a .1 .1 .1 .1 .1 .1 .1 .1 .0 + 3
+
+abbrev μ-record : Measures 4 record-kinds.ps ℕ
+μ-record κs a = 4 * a .1 .1 .1 .1 .1 .1 .1 .1 .1 .0
+
+abbrev μ-value : Measures 4 value-kinds.ps ℕ
+μ-value κs a = 4 * a .1 .1 .1 .1 .1 .1 .1 .1 .1 .0 + 2
+
+abbrev μ-wire : Measures 4 wire-kinds.ps ℕ
+μ-wire κs a = 4 * a .1 .1 .1 .1 .1 .1 .1 .1 .1 .0 + 1
+
+abbrev array-at : ℕ → In 4 array-kinds.ps
+array-at t = and 4 array-kinds.ps (is 4 array-kinds.ps μ-array t) array.Pre
+
+abbrev array-below : ℕ → In 4 array-kinds.ps
+array-below t = and 4 array-kinds.ps (falls 4 array-kinds.ps _<_ μ-array t) array.Pre
+
+abbrev entries-at : ℕ → In 4 entries-kinds.ps
+entries-at t = and 4 entries-kinds.ps (is 4 entries-kinds.ps μ-entries t) entries.Pre
+
+abbrev entries-below : ℕ → In 4 entries-kinds.ps
+entries-below t = and 4 entries-kinds.ps (falls 4 entries-kinds.ps _<_ μ-entries t) entries.Pre
+
+abbrev fields-at : ℕ → In 4 fields-kinds.ps
+fields-at t = and 4 fields-kinds.ps (is 4 fields-kinds.ps μ-fields t) fields.Pre
+
+abbrev fields-below : ℕ → In 4 fields-kinds.ps
+fields-below t = and 4 fields-kinds.ps (falls 4 fields-kinds.ps _<_ μ-fields t) fields.Pre
+
+abbrev record-at : ℕ → In 4 record-kinds.ps
+record-at t = and 4 record-kinds.ps (is 4 record-kinds.ps μ-record t) record.Pre
+
+abbrev record-below : ℕ → In 4 record-kinds.ps
+record-below t = and 4 record-kinds.ps (falls 4 record-kinds.ps _<_ μ-record t) record.Pre
+
+abbrev value-at : ℕ → In 4 value-kinds.ps
+value-at t = and 4 value-kinds.ps (is 4 value-kinds.ps μ-value t) value.Pre
+
+abbrev value-below : ℕ → In 4 value-kinds.ps
+value-below t = and 4 value-kinds.ps (falls 4 value-kinds.ps _<_ μ-value t) value.Pre
+
+abbrev wire-at : ℕ → In 4 wire-kinds.ps
+wire-at t = and 4 wire-kinds.ps (is 4 wire-kinds.ps μ-wire t) wire.Pre
+
+abbrev wire-below : ℕ → In 4 wire-kinds.ps
+wire-below t = and 4 wire-kinds.ps (falls 4 wire-kinds.ps _<_ μ-wire t) wire.Pre
+
+abbrev wire-uses : ℕ → wire-lts.Claims
+wire-uses t = (kind-at-reads.Asked, kind-at-reads.Learnt, boolean-reads.Asked, boolean-reads.Learnt, record-below t, record.Post, array-below t, array.Post, block-reads.Asked, block-reads.Learnt)
+
+abbrev value-uses : ℕ → value-lts.Claims
+value-uses t = (kind-at-reads.Asked, kind-at-reads.Learnt, open-reads.Asked, open-reads.Learnt, row-reads.Asked, row-reads.Learnt, below-reads.Asked, below-reads.Learnt, wire-below t, wire.Post)
+
+abbrev record-uses : ℕ → record-lts.Claims
+record-uses t = (is-bare-reads.Asked, is-bare-reads.Learnt, argument-at-reads.Asked, argument-at-reads.Learnt, push-reads.Asked, push-reads.Learnt, fields-below t, fields.Post)
+
+abbrev fields-uses : ℕ → fields-lts.Claims
+fields-uses t = (is-omittable-reads.Asked, is-omittable-reads.Learnt, end-at-reads.Asked, end-at-reads.Learnt, value-below t, value.Post)
+
+abbrev entries-uses : ℕ → entries-lts.Claims
+entries-uses t = (value-below t, value.Post)
+
+abbrev array-uses : ℕ → array-lts.Claims
+array-uses t = (own-label-reads.Asked, own-label-reads.Learnt, size-of-reads.Asked, size-of-reads.Learnt, push-reads.Asked, push-reads.Learnt, entries-below t, entries.Post)
+
+array-own-label-requires : (t : ℕ) → array-lts.Need-own-label-requires (array-uses t) (array-at t) array.Post
+array-own-label-requires t c κs = c .before .before .before .before .pre .1 .1
+
+array-enum-known-l : (t : ℕ) → array-lts.Need-enum-known-l (array-uses t) (array-at t) array.Post
+array-enum-known-l t c = search needs
+
+array-enum-told : (t : ℕ) → array-lts.Need-enum-told (array-uses t) (array-at t) array.Post
+array-enum-told t c = search needs
+
+array-returns : (t : ℕ) → array-lts.Need-returns (array-uses t) (array-at t) array.Post
+array-returns t c = let a = c .before .before .before .before .before .before .before .args in array-23 (now (a .table)) (now (a .m)) (now (a .work)) (now (a .rows)) (a .modes) (a .node) (a .n) (a .front) (a .c) (c .before .before .before .before .before .before .before .pre .1 .4) (c .before .before .before .before .before .before .before .pre .1 .0) _ (c .before .before .own-label .ensures) (c .enum-told .given .1)
+
+array-size-of-requires : (t : ℕ) → array-lts.Need-size-of-requires (array-uses t) (array-at t) array.Post
+array-size-of-requires t c κs = search needs
+
+array-enum-known-count : (t : ℕ) → array-lts.Need-enum-known-count (array-uses t) (array-at t) array.Post
+array-enum-known-count t c = search needs
+
+array-enum-told-2 : (t : ℕ) → array-lts.Need-enum-told-2 (array-uses t) (array-at t) array.Post
+array-enum-told-2 t c = search needs
+
+array-returns-2 : (t : ℕ) → array-lts.Need-returns-2 (array-uses t) (array-at t) array.Post
+array-returns-2 t c = let a = c .before .before .before .before .before .before .before .before .before .before .before .args in array-24 (now (a .table)) (now (a .m)) (now (a .work)) (now (a .rows)) (a .modes) (a .node) (a .n) (a .front) (a .c) (c .before .before .before .before .before .before .before .before .before .before .before .pre .1 .4) (c .before .before .before .before .before .before .before .before .before .before .before .pre .1 .0) _ (c .before .before .before .before .before .before .own-label .ensures) (c .before .before .before .before .l .given .1) _ (c .before .before .size-of .ensures ∙ toZ-ofZ w64 (c .before .before .before .before .l .given .0 .0) (record { sfits = c .before .before .before .known-told .given .0 .1 })) (c .enum-told2 .given .1)
+
+array-push-requires : (t : ℕ) → array-lts.Need-push-requires (array-uses t) (array-at t) array.Post
+array-push-requires t c κs = search needs
+
+array-enum-known-next : (t : ℕ) → array-lts.Need-enum-known-next (array-uses t) (array-at t) array.Post
+array-enum-known-next t c = search needs
+
+array-enum-told-3 : (t : ℕ) → array-lts.Need-enum-told-3 (array-uses t) (array-at t) array.Post
+array-enum-told-3 t c = search needs
+
+array-same-length : (t : ℕ) → array-lts.Need-same-length (array-uses t) (array-at t) array.Post
+array-same-length t c = search needs
+
+array-returns-3 : (t : ℕ) → array-lts.Need-returns-3 (array-uses t) (array-at t) array.Post
+array-returns-3 t c = let a = c .before .before .before .before .before .before .before .before .before .before .before .before .before .before .before .before .before .before .args in array-31 (now (a .table)) (now (a .m)) (now (a .work)) (now (a .rows)) (a .modes) (a .node) (a .n) (a .front) (a .c) (c .before .before .before .before .before .before .before .before .before .before .before .before .before .before .before .before .before .before .pre .1 .4) (c .before .before .before .before .before .before .before .before .before .before .before .before .before .before .before .before .before .before .pre .1 .0) _ (c .before .before .before .before .before .before .before .before .before .before .before .before .before .own-label .ensures) (c .before .before .before .before .before .before .before .before .before .before .before .l .given .1) _ (c .before .before .before .before .before .before .before .before .before .size-of .ensures ∙ toZ-ofZ w64 (c .before .before .before .before .before .before .before .before .before .before .before .l .given .0 .0) (record { sfits = c .before .before .before .before .before .before .before .before .before .before .known-told .given .0 .1 })) (c .before .before .before .before .before .before .before .count .given .1) _ (c .before .before .before .before .push .ensures .0) (c .enum-told3 .given .1)
+
+array-add-entries : (t : ℕ) → array-lts.Need-add-entries (array-uses t) (array-at t) array.Post
+array-add-entries t c = omega (arith, wire-inside _ _ _ _ (c .before .before .before .before .before .before .before .before .before .before .before .before .before .before .before .before .before .before .before .before .before .pre .1 .3) (c .before .before .before .before .before .before .before .before .before .before .before .before .before .before .before .before .before .before .before .before .before .pre .1 .2) .1)
+
+array-sub-entries : (t : ℕ) → array-lts.Need-sub-entries (array-uses t) (array-at t) array.Post
+array-sub-entries t c = omega (arith, wire-inside _ _ _ _ (c .before .before .before .before .before .before .before .before .before .before .before .before .before .before .before .before .before .before .before .before .before .pre .1 .3) (c .before .before .before .before .before .before .before .before .before .before .before .before .before .before .before .before .before .before .before .before .before .pre .1 .2) .0)
+
+array-entries-requires : (t : ℕ) → array-lts.Need-entries-requires (array-uses t) (array-at t) array.Post
+array-entries-requires t c κs = let a = c .before .before .before .before .before .before .before .before .before .before .before .before .before .before .before .before .before .before .before .before .before .args in (omega (arith, c .before .before .before .before .before .before .before .before .before .before .before .before .before .before .before .before .before .before .before .before .before .pre .0, wire-inside _ _ _ _ (c .before .before .before .before .before .before .before .before .before .before .before .before .before .before .before .before .before .before .before .before .before .pre .1 .3) (c .before .before .before .before .before .before .before .before .before .before .before .before .before .before .before .before .before .before .before .before .before .pre .1 .2) .0), (c .before .before .before .before .before .before .before .before .before .before .before .before .before .before .before .before .before .before .before .before .before .pre .1 .0, own-inside (now (a .table)) (now (a .m)) (now (a .work)) (now (a .rows)) (a .modes) (a .node) (a .n) (a .front) (a .c) (c .before .before .before .before .before .before .before .before .before .before .before .before .before .before .before .before .before .before .before .before .before .pre .1 .4) (c .before .before .before .before .before .before .before .before .before .before .before .before .before .before .before .before .before .before .before .before .before .pre .1 .0) _ (c .before .before .before .before .before .before .before .before .before .before .before .before .before .before .before .before .own-label .ensures) (c .before .before .before .before .before .before .before .before .before .before .before .before .before .before .l .given .1), c .before .before .before .before .before .before .before .before .before .before .before .before .before .before .before .before .before .before .before .before .before .pre .1 .2, fits-entry _ _ _ _ (c .before .before .before .before .before .before .before .before .before .before .before .before .before .before .before .before .before .before .before .before .before .pre .1 .3) (c .before .before .before .before .before .before .before .before .before .before .before .before .before .before .before .before .before .before .before .before .before .pre .1 .4)))
+
+array-same-length-2 : (t : ℕ) → array-lts.Need-same-length-2 (array-uses t) (array-at t) array.Post
+array-same-length-2 t c = search needs
+
+array-same-length-3 : (t : ℕ) → array-lts.Need-same-length-3 (array-uses t) (array-at t) array.Post
+array-same-length-3 t c = search needs
+
+array-returns-4 : (t : ℕ) → array-lts.Need-returns-4 (array-uses t) (array-at t) array.Post
+array-returns-4 t c = let a = c .before .before .before .before .before .before .before .before .before .before .before .before .before .before .before .before .before .before .before .before .before .before .before .before .before .before .args in array-then (now (a .table)) (now (a .m)) (now (a .work)) (now (a .rows)) (a .modes) (a .node) (a .n) (a .front) (a .c) (c .before .before .before .before .before .before .before .before .before .before .before .before .before .before .before .before .before .before .before .before .before .before .before .before .before .before .pre .1 .4) (c .before .before .before .before .before .before .before .before .before .before .before .before .before .before .before .before .before .before .before .before .before .before .before .before .before .before .pre .1 .0) _ (c .before .before .before .before .before .before .before .before .before .before .before .before .before .before .before .before .before .before .before .before .before .own-label .ensures) (c .before .before .before .before .before .before .before .before .before .before .before .before .before .before .before .before .before .before .before .l .given .1) _ (c .before .before .before .before .before .before .before .before .before .before .before .before .before .before .before .before .before .size-of .ensures ∙ toZ-ofZ w64 (c .before .before .before .before .before .before .before .before .before .before .before .before .before .before .before .before .before .before .before .l .given .0 .0) (record { sfits = c .before .before .before .before .before .before .before .before .before .before .before .before .before .before .before .before .before .before .known-told .given .0 .1 })) (c .before .before .before .before .before .before .before .before .before .before .before .before .before .before .before .count .given .1) _ (c .before .before .before .before .before .before .before .before .before .before .before .before .push .ensures .0) (c .before .before .before .before .before .before .before .before .before .before .before .before .push .ensures .1) (c .before .before .before .before .before .before .before .before .next .given .1) (c .before .before .before .before .before .before .before .before .before .before .before .before .push .kept .0) (c .before .before .before .before .entries .ensures)
+
+abbrev entries-Inv-loop : entries-lts.InvT-loop
+entries-Inv-loop table m rows₀ work₀ modes node n left count k₀ core₀ i₀ rows work k core i = EntriesAt table m work₀ rows₀ modes node count core₀ n work rows k core i
+
+abbrev entries-μ-loop : entries-lts.MeasureT-loop
+entries-μ-loop table m rows₀ work₀ modes node n left count k₀ core₀ i₀ rows work k core i = k
+
+entries-loop-holds : (t : ℕ) → entries-lts.Need-loop-holds (entries-uses t) (entries-at t) entries.Post entries-Inv-loop entries-μ-loop
+entries-loop-holds t c = let a = c .before .before .before .before .args in entries-begin (now (a .table)) (now (a .m)) (now (a .work)) (now (a .rows)) (a .modes) (a .node) (a .count) (a .c) (a .n) (c .before .before .before .before .pre .1 .0) (c .before .before .before .before .pre .1 .1)
+
+entries-value-requires : (t : ℕ) → entries-lts.Need-value-requires (entries-uses t) (entries-at t) entries.Post entries-Inv-loop entries-μ-loop
+entries-value-requires t c κs = let a = c .before .before .before .before .before .before .before .before .args in let x = c .before .before .before .loop in (omega (arith, c .before .before .before .before .before .before .before .before .pre .0), (x .inv .ready, x .inv .inside, c .before .before .before .before .before .before .before .before .pre .1 .2, entries-fits (now (a .table)) (now (a .m)) (now (a .work)) (now (a .rows)) (a .modes) (a .node) (a .count) (a .c) (a .n) (x .work) (x .rows) (x .k) (x .core) (x .i) (x .inv) (c .before .before .before .before .before .before .before .before .pre .1 .2) (c .before .before .before .before .before .before .before .before .pre .1 .3)))
+
+entries-enum-known-r : (t : ℕ) → entries-lts.Need-enum-known-r (entries-uses t) (entries-at t) entries.Post entries-Inv-loop entries-μ-loop
+entries-enum-known-r t c = search needs
+
+entries-enum-told : (t : ℕ) → entries-lts.Need-enum-told (entries-uses t) (entries-at t) entries.Post entries-Inv-loop entries-μ-loop
+entries-enum-told t c = search needs
+
+entries-same-length : (t : ℕ) → entries-lts.Need-same-length (entries-uses t) (entries-at t) entries.Post entries-Inv-loop entries-μ-loop
+entries-same-length t c = c .before .before .before .before .before .before .value .kept .1 .1 .0 ∙ c .before .before .before .before .before .before .before .before .before .before .loop .inv .lent
+
+entries-same-length-2 : (t : ℕ) → entries-lts.Need-same-length-2 (entries-uses t) (entries-at t) entries.Post entries-Inv-loop entries-μ-loop
+entries-same-length-2 t c = c .before .before .before .before .before .before .value .kept .1 .1 .1 .0 ∙ c .before .before .before .before .before .before .before .before .before .before .loop .inv .worked
+
+entries-returns : (t : ℕ) → entries-lts.Need-returns (entries-uses t) (entries-at t) entries.Post entries-Inv-loop entries-μ-loop
+entries-returns t c = let a = c .before .before .before .before .before .before .before .before .before .before .before .before .before .before .before .args in let x = c .before .before .before .before .before .before .before .before .before .before .loop in entries-not (now (a .table)) (now (a .m)) (now (a .work)) (now (a .rows)) (a .modes) (a .node) (a .count) (a .c) (a .n) (x .work) (x .rows) (x .k) (x .core) (x .i) (x .inv) (c .before .before .before .before .before .before .before .before .before .before .before .before .before .before .before .pre .1 .2) (c .before .before .before .before .before .before .before .before .before .loop-test .taken) (c .before .before .before .before .before .before .value .ensures) (c .enum-told .given .1)
+
+entries-sub-k : (t : ℕ) → entries-lts.Need-sub-k (entries-uses t) (entries-at t) entries.Post entries-Inv-loop entries-μ-loop
+entries-sub-k t c = search needs
+
+entries-loop-less : (t : ℕ) → entries-lts.Need-loop-less (entries-uses t) (entries-at t) entries.Post entries-Inv-loop entries-μ-loop
+entries-loop-less t c = omega arith
+
+entries-loop-again : (t : ℕ) → entries-lts.Need-loop-again (entries-uses t) (entries-at t) entries.Post entries-Inv-loop entries-μ-loop
+entries-loop-again t c = let a = c .before .before .before .before .before .before .before .before .before .before .before .before .before .before .before .before .args in let x = c .before .before .before .before .before .before .before .before .before .before .before .loop in entries-again (now (a .table)) (now (a .m)) (now (a .work)) (now (a .rows)) (a .modes) (a .node) (a .count) (a .c) (a .n) (x .work) (x .rows) (x .k) (x .core) (x .i) (x .inv) (c .before .before .before .before .before .before .before .before .before .before .before .before .before .before .before .before .pre .1 .2) (c .before .before .before .before .before .before .before .before .before .before .before .before .before .before .before .before .pre .1 .3) (c .before .before .before .before .before .before .before .before .before .before .loop-test .taken) (c .before .before .before .before .before .before .before .value .kept .1 .1 .0) (c .before .before .before .before .before .before .before .value .kept .1 .1 .1 .0) (c .before .before .before .before .before .before .before .value .ensures) (c .before .r .given .1)
+
+entries-same-length-3 : (t : ℕ) → entries-lts.Need-same-length-3 (entries-uses t) (entries-at t) entries.Post entries-Inv-loop entries-μ-loop
+entries-same-length-3 t c = c .before .loop .inv .lent
+
+entries-same-length-4 : (t : ℕ) → entries-lts.Need-same-length-4 (entries-uses t) (entries-at t) entries.Post entries-Inv-loop entries-μ-loop
+entries-same-length-4 t c = c .before .loop .inv .worked
+
+entries-returns-2 : (t : ℕ) → entries-lts.Need-returns-2 (entries-uses t) (entries-at t) entries.Post entries-Inv-loop entries-μ-loop
+entries-returns-2 t c = let a = c .before .before .before .before .before .before .args in let x = c .before .loop in entries-end (now (a .table)) (now (a .m)) (now (a .work)) (now (a .rows)) (a .modes) (a .node) (a .count) (a .c) (a .n) (x .work) (x .rows) (x .k) (x .core) (x .i) (x .inv) (c .before .before .before .before .before .before .pre .1 .2) (c .loop-test .left)
+
+abbrev fields-Inv-loop : fields-lts.InvT-loop
+fields-Inv-loop table m rows₀ work₀ modes node n left count k₀ at₀ core₀ i₀ rows work k at core i = FieldsAt table m work₀ rows₀ modes node count core₀ n work rows k at core i
+
+abbrev fields-μ-loop : fields-lts.MeasureT-loop
+fields-μ-loop table m rows₀ work₀ modes node n left count k₀ at₀ core₀ i₀ rows work k at core i = k
+
+fields-loop-holds : (t : ℕ) → fields-lts.Need-loop-holds (fields-uses t) (fields-at t) fields.Post fields-Inv-loop fields-μ-loop
+fields-loop-holds t c = let a = c .before .before .before .before .args in fields-begin (now (a .table)) (now (a .m)) (now (a .work)) (now (a .rows)) (a .modes) (a .node) (a .count) (a .c) (a .n) (c .before .before .before .before .pre .1 .0) (c .before .before .before .before .pre .1 .1)
+
+fields-is-omittable-requires : (t : ℕ) → fields-lts.Need-is-omittable-requires (fields-uses t) (fields-at t) fields.Post fields-Inv-loop fields-μ-loop
+fields-is-omittable-requires t c κs = let a = c .before .before .before .before .before .before .args in let x = c .before .loop in node-inside _ _ _ _ (fields-fits (now (a .table)) (now (a .m)) (now (a .work)) (now (a .rows)) (a .modes) (a .node) (a .count) (a .c) (a .n) (x .work) (x .rows) (x .k) (x .at) (x .core) (x .i) (x .inv) (c .before .before .before .before .before .before .pre .1 .2) (c .before .before .before .before .before .before .pre .1 .3) (c .loop-test .taken)) (c .before .before .before .before .before .before .pre .1 .2) .1
+
+fields-end-at-requires : (t : ℕ) → fields-lts.Need-end-at-requires (fields-uses t) (fields-at t) fields.Post fields-Inv-loop fields-μ-loop
+fields-end-at-requires t c κs = let a = c .before .before .before .before .before .before .before .before .args in let x = c .before .before .before .loop in omega (arith, node-inside _ _ _ _ (fields-fits (now (a .table)) (now (a .m)) (now (a .work)) (now (a .rows)) (a .modes) (a .node) (a .count) (a .c) (a .n) (x .work) (x .rows) (x .k) (x .at) (x .core) (x .i) (x .inv) (c .before .before .before .before .before .before .before .before .pre .1 .2) (c .before .before .before .before .before .before .before .before .pre .1 .3) (c .before .before .loop-test .taken)) (c .before .before .before .before .before .before .before .before .pre .1 .2) .0, x .inv .ready .good .whole)
+
+fields-value-requires : (t : ℕ) → fields-lts.Need-value-requires (fields-uses t) (fields-at t) fields.Post fields-Inv-loop fields-μ-loop
+fields-value-requires t c κs = let a = c .before .before .before .before .before .before .before .before .before .before .before .args in let x = c .before .before .before .before .before .before .loop in (omega (arith, c .before .before .before .before .before .before .before .before .before .before .before .pre .0), (x .inv .ready, x .inv .inside, c .before .before .before .before .before .before .before .before .before .before .before .pre .1 .2, fields-fits (now (a .table)) (now (a .m)) (now (a .work)) (now (a .rows)) (a .modes) (a .node) (a .count) (a .c) (a .n) (x .work) (x .rows) (x .k) (x .at) (x .core) (x .i) (x .inv) (c .before .before .before .before .before .before .before .before .before .before .before .pre .1 .2) (c .before .before .before .before .before .before .before .before .before .before .before .pre .1 .3) (c .before .before .before .before .before .loop-test .taken)))
+
+fields-enum-known-r : (t : ℕ) → fields-lts.Need-enum-known-r (fields-uses t) (fields-at t) fields.Post fields-Inv-loop fields-μ-loop
+fields-enum-known-r t c = search needs
+
+fields-enum-told : (t : ℕ) → fields-lts.Need-enum-told (fields-uses t) (fields-at t) fields.Post fields-Inv-loop fields-μ-loop
+fields-enum-told t c = search needs
+
+fields-same-length : (t : ℕ) → fields-lts.Need-same-length (fields-uses t) (fields-at t) fields.Post fields-Inv-loop fields-μ-loop
+fields-same-length t c = c .before .before .before .before .before .before .value .kept .1 .1 .0 ∙ c .before .before .before .before .before .before .before .before .before .before .before .before .before .loop .inv .lent
+
+fields-same-length-2 : (t : ℕ) → fields-lts.Need-same-length-2 (fields-uses t) (fields-at t) fields.Post fields-Inv-loop fields-μ-loop
+fields-same-length-2 t c = c .before .before .before .before .before .before .value .kept .1 .1 .1 .0 ∙ c .before .before .before .before .before .before .before .before .before .before .before .before .before .loop .inv .worked
+
+fields-returns : (t : ℕ) → fields-lts.Need-returns (fields-uses t) (fields-at t) fields.Post fields-Inv-loop fields-μ-loop
+fields-returns t c = let a = c .before .before .before .before .before .before .before .before .before .before .before .before .before .before .before .before .before .before .args in let x = c .before .before .before .before .before .before .before .before .before .before .before .before .before .loop in fields-not (now (a .table)) (now (a .m)) (now (a .work)) (now (a .rows)) (a .modes) (a .node) (a .count) (a .c) (a .n) (x .work) (x .rows) (x .k) (x .at) (x .core) (x .i) (x .inv) (c .before .before .before .before .before .before .before .before .before .before .before .before .before .before .before .before .before .before .pre .1 .2) (c .before .before .before .before .before .before .before .before .before .before .before .before .loop-test .taken) (c .before .before .before .before .before .before .before .before .before .before .before .is-omittable .ensures) (c .before .before .before .before .before .before .value .ensures) (c .enum-told .given .1)
+
+fields-sub-k : (t : ℕ) → fields-lts.Need-sub-k (fields-uses t) (fields-at t) fields.Post fields-Inv-loop fields-μ-loop
+fields-sub-k t c = search needs
+
+fields-loop-less : (t : ℕ) → fields-lts.Need-loop-less (fields-uses t) (fields-at t) fields.Post fields-Inv-loop fields-μ-loop
+fields-loop-less t c = omega arith
+
+fields-loop-again : (t : ℕ) → fields-lts.Need-loop-again (fields-uses t) (fields-at t) fields.Post fields-Inv-loop fields-μ-loop
+fields-loop-again t c = let a = c .before .before .before .before .before .before .before .before .before .before .before .before .before .before .before .before .before .before .before .args in let x = c .before .before .before .before .before .before .before .before .before .before .before .before .before .before .loop in fields-again (now (a .table)) (now (a .m)) (now (a .work)) (now (a .rows)) (a .modes) (a .node) (a .count) (a .c) (a .n) (x .work) (x .rows) (x .k) (x .at) (x .core) (x .i) (x .inv) (c .before .before .before .before .before .before .before .before .before .before .before .before .before .before .before .before .before .before .before .pre .1 .2) (c .before .before .before .before .before .before .before .before .before .before .before .before .before .before .before .before .before .before .before .pre .1 .3) (c .before .before .before .before .before .before .before .before .before .before .before .before .before .loop-test .taken) (c .before .before .before .before .before .before .before .before .before .before .before .before .is-omittable .ensures) (c .before .before .before .before .before .before .before .before .before .before .end-at .ensures .0) (c .before .before .before .before .before .before .before .value .kept .1 .1 .0) (c .before .before .before .before .before .before .before .value .kept .1 .1 .1 .0) (c .before .before .before .before .before .before .before .value .ensures) (c .before .r .given .1)
+
+fields-same-length-3 : (t : ℕ) → fields-lts.Need-same-length-3 (fields-uses t) (fields-at t) fields.Post fields-Inv-loop fields-μ-loop
+fields-same-length-3 t c = c .before .loop .inv .lent
+
+fields-same-length-4 : (t : ℕ) → fields-lts.Need-same-length-4 (fields-uses t) (fields-at t) fields.Post fields-Inv-loop fields-μ-loop
+fields-same-length-4 t c = c .before .loop .inv .worked
+
+fields-returns-2 : (t : ℕ) → fields-lts.Need-returns-2 (fields-uses t) (fields-at t) fields.Post fields-Inv-loop fields-μ-loop
+fields-returns-2 t c = let a = c .before .before .before .before .before .before .args in let x = c .before .loop in fields-end (now (a .table)) (now (a .m)) (now (a .work)) (now (a .rows)) (a .modes) (a .node) (a .count) (a .c) (a .n) (x .work) (x .rows) (x .k) (x .at) (x .core) (x .i) (x .inv) (c .before .before .before .before .before .before .pre .1 .2) (c .loop-test .left)
+
+record-is-bare-requires : (t : ℕ) → record-lts.Need-is-bare-requires (record-uses t) (record-at t) record.Post
+record-is-bare-requires t c κs = search needs
+
+record-returns : (t : ℕ) → record-lts.Need-returns (record-uses t) (record-at t) record.Post
+record-returns t c = let a = c .before .before .before .before .before .before .args in record-24 (now (a .table)) (now (a .m)) (now (a .work)) (now (a .rows)) (a .modes) (a .node) (a .n) (a .front) (a .c) (c .before .before .before .before .before .before .pre .1 .4) _ (c .before .is-bare .ensures) (c .if1 .taken)
+
+record-argument-at-requires : (t : ℕ) → record-lts.Need-argument-at-requires (record-uses t) (record-at t) record.Post
+record-argument-at-requires t c κs = wire-inside _ _ _ _ (c .before .before .before .before .before .before .pre .1 .3) (c .before .before .before .before .before .before .pre .1 .2) .2
+
+record-push-requires : (t : ℕ) → record-lts.Need-push-requires (record-uses t) (record-at t) record.Post
+record-push-requires t c κs = search needs
+
+record-enum-known-next : (t : ℕ) → record-lts.Need-enum-known-next (record-uses t) (record-at t) record.Post
+record-enum-known-next t c = search needs
+
+record-enum-told : (t : ℕ) → record-lts.Need-enum-told (record-uses t) (record-at t) record.Post
+record-enum-told t c = search needs
+
+record-same-length : (t : ℕ) → record-lts.Need-same-length (record-uses t) (record-at t) record.Post
+record-same-length t c = search needs
+
+record-returns-2 : (t : ℕ) → record-lts.Need-returns-2 (record-uses t) (record-at t) record.Post
+record-returns-2 t c = let a = c .before .before .before .before .before .before .before .before .before .before .before .before .before .args in record-31 (now (a .table)) (now (a .m)) (now (a .work)) (now (a .rows)) (a .modes) (a .node) (a .n) (a .front) (a .c) (c .before .before .before .before .before .before .before .before .before .before .before .before .before .pre .1 .4) _ (c .before .before .before .before .before .before .before .before .is-bare .ensures) (c .before .before .before .before .before .before .before .if1 .left) _ (c .before .before .before .before .push .ensures .0) (c .enum-told .given .1)
+
+record-add-fields : (t : ℕ) → record-lts.Need-add-fields (record-uses t) (record-at t) record.Post
+record-add-fields t c = omega (arith, wire-inside _ _ _ _ (c .before .before .before .before .before .before .before .before .before .before .before .before .before .before .before .before .pre .1 .3) (c .before .before .before .before .before .before .before .before .before .before .before .before .before .before .before .before .pre .1 .2) .1)
+
+record-sub-fields : (t : ℕ) → record-lts.Need-sub-fields (record-uses t) (record-at t) record.Post
+record-sub-fields t c = omega (arith, wire-inside _ _ _ _ (c .before .before .before .before .before .before .before .before .before .before .before .before .before .before .before .before .pre .1 .3) (c .before .before .before .before .before .before .before .before .before .before .before .before .before .before .before .before .pre .1 .2) .0)
+
+record-fields-requires : (t : ℕ) → record-lts.Need-fields-requires (record-uses t) (record-at t) record.Post
+record-fields-requires t c κs = let a = c .before .before .before .before .before .before .before .before .before .before .before .before .before .before .before .before .args in (omega (arith, c .before .before .before .before .before .before .before .before .before .before .before .before .before .before .before .before .pre .0, wire-inside _ _ _ _ (c .before .before .before .before .before .before .before .before .before .before .before .before .before .before .before .before .pre .1 .3) (c .before .before .before .before .before .before .before .before .before .before .before .before .before .before .before .before .pre .1 .2) .0), (c .before .before .before .before .before .before .before .before .before .before .before .before .before .before .before .before .pre .1 .0, c .before .before .before .before .before .before .before .before .before .before .before .before .before .before .before .before .pre .1 .1, c .before .before .before .before .before .before .before .before .before .before .before .before .before .before .before .before .pre .1 .2, record-fits _ _ _ _ _ (c .before .before .before .before .before .before .before .before .before .before .before .before .before .before .before .before .pre .1 .4) (c .before .before .before .before .before .before .before .before .before .argument-at .ensures .0) (c .before .before .before .before .before .before .before .before .before .before .before .before .before .before .before .before .pre .1 .3)))
+
+record-same-length-2 : (t : ℕ) → record-lts.Need-same-length-2 (record-uses t) (record-at t) record.Post
+record-same-length-2 t c = search needs
+
+record-same-length-3 : (t : ℕ) → record-lts.Need-same-length-3 (record-uses t) (record-at t) record.Post
+record-same-length-3 t c = search needs
+
+record-returns-3 : (t : ℕ) → record-lts.Need-returns-3 (record-uses t) (record-at t) record.Post
+record-returns-3 t c = let a = c .before .before .before .before .before .before .before .before .before .before .before .before .before .before .before .before .before .before .before .before .before .args in record-then (now (a .table)) (now (a .m)) (now (a .work)) (now (a .rows)) (a .modes) (a .node) (a .n) (a .front) (a .c) (c .before .before .before .before .before .before .before .before .before .before .before .before .before .before .before .before .before .before .before .before .before .pre .1 .4) _ (c .before .before .before .before .before .before .before .before .before .before .before .before .before .before .before .before .is-bare .ensures) (c .before .before .before .before .before .before .before .before .before .before .before .before .before .before .before .if1 .left) _ (c .before .before .before .before .before .before .before .before .before .before .before .before .push .ensures .0) (c .before .before .before .before .before .before .before .before .before .before .before .before .before .before .argument-at .ensures .0) (c .before .before .before .before .before .before .before .before .before .before .before .before .push .ensures .1) (c .before .before .before .before .before .before .before .before .next .given .1) (c .before .before .before .before .before .before .before .before .before .before .before .before .push .kept .0) (c .before .before .before .before .fields .ensures)
+
+value-kind-at-requires : (t : ℕ) → value-lts.Need-kind-at-requires (value-uses t) (value-at t) value.Post
+value-kind-at-requires t c κs = node-inside _ _ _ _ (c .before .before .before .before .pre .1 .3) (c .before .before .before .before .pre .1 .2) .1
+
+value-open-requires : (t : ℕ) → value-lts.Need-open-requires (value-uses t) (value-at t) value.Post
+value-open-requires t c κs = c .before .before .before .before .before .pre .1 .1
+
+value-enum-known-first : (t : ℕ) → value-lts.Need-enum-known-first (value-uses t) (value-at t) value.Post
+value-enum-known-first t c = search needs
+
+value-enum-known-first-2 : (t : ℕ) → value-lts.Need-enum-known-first-2 (value-uses t) (value-at t) value.Post
+value-enum-known-first-2 t c = search needs
+
+value-row-requires : (t : ℕ) → value-lts.Need-row-requires (value-uses t) (value-at t) value.Post
+value-row-requires t c κs = search needs
+
+value-enum-known-first-3 : (t : ℕ) → value-lts.Need-enum-known-first-3 (value-uses t) (value-at t) value.Post
+value-enum-known-first-3 t c = search needs
+
+value-below-requires : (t : ℕ) → value-lts.Need-below-requires (value-uses t) (value-at t) value.Post
+value-below-requires t c κs = node-inside _ _ _ _ (c .before .before .before .before .before .before .before .before .before .pre .1 .3) (c .before .before .before .before .before .before .before .before .before .pre .1 .2) .0
+
+value-wire-requires : (t : ℕ) → value-lts.Need-wire-requires (value-uses t) (value-at t) value.Post
+value-wire-requires t c κs = let a = c .before .before .before .before .before .before .before .before .before .before .before .before .args in (omega (arith, c .before .before .before .before .before .before .before .before .before .before .before .before .pre .0), (c .before .before .before .before .before .before .before .before .before .before .before .before .pre .1 .0, opened-inside (now (a .table)) (now (a .m)) (now (a .work)) (now (a .rows)) (a .modes) (a .node) (a .n) (a .omittable) _ (a .c) _ (ap (λ k. eqb k 10) (c .before .before .before .before .before .before .before .kind-at .ensures)) (c .before .before .before .before .before .before .before .before .before .before .before .before .pre .1 .0) (c .before .before .before .before .before .before .«open» .ensures) (c .before .before .before .before .first3 .given .1), c .before .before .before .before .before .before .before .before .before .before .before .before .pre .1 .2, value-fits _ _ _ (a .node) _ _ (ap (λ k. eqb k 10) (c .before .before .before .before .before .before .before .kind-at .ensures)) (c .before .before .below .ensures) (c .before .before .before .before .before .before .before .before .before .before .before .before .pre .1 .3)))
+
+value-returns : (t : ℕ) → value-lts.Need-returns (value-uses t) (value-at t) value.Post
+value-returns t c = let a = c .before .before .before .before .before .before .before .before .before .args in value-refused (now (a .table)) (now (a .m)) (now (a .work)) (now (a .rows)) (a .modes) (a .node) (a .n) (a .omittable) _ (a .c) _ (ap (λ k. eqb k 10) (c .before .before .before .before .kind-at .ensures)) (c .before .before .before .before .before .before .before .before .before .pre .1 .0) (c .before .before .before .«open» .ensures) (c .before .first .given .1)
+
+value-same-length : (t : ℕ) → value-lts.Need-same-length (value-uses t) (value-at t) value.Post
+value-same-length t c = search needs
+
+value-returns-2 : (t : ℕ) → value-lts.Need-returns-2 (value-uses t) (value-at t) value.Post
+value-returns-2 t c = let a = c .before .before .before .before .before .before .before .before .before .before .before .before .before .args in value-gone (now (a .table)) (now (a .m)) (now (a .work)) (now (a .rows)) (a .modes) (a .node) (a .n) (a .omittable) _ (a .c) _ (ap (λ k. eqb k 10) (c .before .before .before .before .before .before .before .before .kind-at .ensures)) (c .before .before .before .before .before .before .before .before .before .before .before .before .before .pre .1 .0) (c .before .before .before .before .before .before .before .«open» .ensures) (c .before .before .before .before .before .first2 .given .1) (c .before .before .row .ensures)
+
+value-same-length-2 : (t : ℕ) → value-lts.Need-same-length-2 (value-uses t) (value-at t) value.Post
+value-same-length-2 t c = search needs
+
+value-same-length-3 : (t : ℕ) → value-lts.Need-same-length-3 (value-uses t) (value-at t) value.Post
+value-same-length-3 t c = search needs
+
+value-returns-3 : (t : ℕ) → value-lts.Need-returns-3 (value-uses t) (value-at t) value.Post
+value-returns-3 t c = let a = c .before .before .before .before .before .before .before .before .before .before .before .before .before .before .before .before .before .args in value-here (now (a .table)) (now (a .m)) (now (a .work)) (now (a .rows)) (a .modes) (a .node) (a .n) (a .omittable) _ (a .c) _ (ap (λ k. eqb k 10) (c .before .before .before .before .before .before .before .before .before .before .before .before .kind-at .ensures)) (c .before .before .before .before .before .before .before .before .before .before .before .before .before .before .before .before .before .pre .1 .0) (c .before .before .before .before .before .before .before .before .before .before .before .«open» .ensures) (c .before .before .before .before .before .before .before .before .before .first3 .given .1) (c .before .before .before .before .before .before .before .below .ensures) (c .before .before .before .before .wire .ensures)
+
+wire-kind-at-requires : (t : ℕ) → wire-lts.Need-kind-at-requires (wire-uses t) (wire-at t) wire.Post
+wire-kind-at-requires t c κs = wire-inside _ _ _ _ (c .before .before .before .before .pre .1 .3) (c .before .before .before .before .pre .1 .2) .2
+
+wire-boolean-requires : (t : ℕ) → wire-lts.Need-boolean-requires (wire-uses t) (wire-at t) wire.Post
+wire-boolean-requires t c κs = c .before .before .before .before .before .before .before .pre .1 .1
+
+wire-same-length : (t : ℕ) → wire-lts.Need-same-length (wire-uses t) (wire-at t) wire.Post
+wire-same-length t c = search needs
+
+wire-returns : (t : ℕ) → wire-lts.Need-returns (wire-uses t) (wire-at t) wire.Post
+wire-returns t c = let a = c .before .before .before .before .before .before .before .before .before .before .args in boolean-reads (now (a .table)) (now (a .m)) (now (a .work)) (now (a .rows)) _ (a .modes) (a .node) (a .n) (a .front) (a .c) _ (sym (c .before .before .before .before .before .kind-at .ensures) ∙ c .before .before .before .before .if1 .taken) (c .before .before .before .before .before .before .before .before .before .before .pre .1 .0) (c .before .before .boolean .ensures)
+
+wire-record-requires : (t : ℕ) → wire-lts.Need-record-requires (wire-uses t) (wire-at t) wire.Post
+wire-record-requires t c κs = (omega (arith, c .before .before .before .before .before .before .before .before .before .pre .0), (c .before .before .before .before .before .before .before .before .before .pre .1 .0, c .before .before .before .before .before .before .before .before .before .pre .1 .1, c .before .before .before .before .before .before .before .before .before .pre .1 .2, c .before .before .before .before .before .before .before .before .before .pre .1 .3, (sym (c .before .before .before .before .kind-at .ensures) ∙ c .before .before .if2 .taken)))
+
+wire-same-length-2 : (t : ℕ) → wire-lts.Need-same-length-2 (wire-uses t) (wire-at t) wire.Post
+wire-same-length-2 t c = search needs
+
+wire-same-length-3 : (t : ℕ) → wire-lts.Need-same-length-3 (wire-uses t) (wire-at t) wire.Post
+wire-same-length-3 t c = search needs
+
+wire-returns-2 : (t : ℕ) → wire-lts.Need-returns-2 (wire-uses t) (wire-at t) wire.Post
+wire-returns-2 t c = c .before .before .before .before .«record» .ensures
+
+wire-array-requires : (t : ℕ) → wire-lts.Need-array-requires (wire-uses t) (wire-at t) wire.Post
+wire-array-requires t c κs = (omega (arith, c .before .before .before .before .before .before .before .before .before .before .pre .0), (c .before .before .before .before .before .before .before .before .before .before .pre .1 .0, c .before .before .before .before .before .before .before .before .before .before .pre .1 .1, c .before .before .before .before .before .before .before .before .before .before .pre .1 .2, c .before .before .before .before .before .before .before .before .before .before .pre .1 .3, (sym (c .before .before .before .before .before .kind-at .ensures) ∙ c .before .before .if3 .taken)))
+
+wire-same-length-4 : (t : ℕ) → wire-lts.Need-same-length-4 (wire-uses t) (wire-at t) wire.Post
+wire-same-length-4 t c = search needs
+
+wire-same-length-5 : (t : ℕ) → wire-lts.Need-same-length-5 (wire-uses t) (wire-at t) wire.Post
+wire-same-length-5 t c = search needs
+
+wire-returns-3 : (t : ℕ) → wire-lts.Need-returns-3 (wire-uses t) (wire-at t) wire.Post
+wire-returns-3 t c = c .before .before .before .before .array .ensures
+
+wire-block-requires : (t : ℕ) → wire-lts.Need-block-requires (wire-uses t) (wire-at t) wire.Post
+wire-block-requires t c κs = let b = block-inside _ _ _ _ (c .before .before .before .before .before .before .before .before .before .before .pre .1 .3) (c .before .before .before .before .before .before .before .before .before .before .pre .1 .2) (λ e. c .before .before .before .before .if1 .left (c .before .before .before .before .before .kind-at .ensures ∙ e)) (λ e. c .before .before .before .if2 .left (c .before .before .before .before .before .kind-at .ensures ∙ e)) (λ e. c .before .before .if3 .left (c .before .before .before .before .before .kind-at .ensures ∙ e)) in (c .before .before .before .before .before .before .before .before .before .before .pre .1 .0, c .before .before .before .before .before .before .before .before .before .before .pre .1 .1, b .0, b .1, b .2)
+
+wire-same-length-6 : (t : ℕ) → wire-lts.Need-same-length-6 (wire-uses t) (wire-at t) wire.Post
+wire-same-length-6 t c = search needs
+
+wire-same-length-7 : (t : ℕ) → wire-lts.Need-same-length-7 (wire-uses t) (wire-at t) wire.Post
+wire-same-length-7 t c = search needs
+
+wire-returns-4 : (t : ℕ) → wire-lts.Need-returns-4 (wire-uses t) (wire-at t) wire.Post
+wire-returns-4 t c = c .before .before .before .before .block .ensures
+
+pub +array+entries+fields+record+value+wire-spec : {M : Type 1} → statement M
++array+entries+fields+record+value+wire-spec =
+    close μ-array μ-entries μ-fields μ-record μ-value μ-wire (λ t. array-lts.spec (array-uses t) (array-at t) array.Post
+    (array-own-label-requires t)
+    (array-enum-known-l t)
+    (array-enum-told t)
+    (array-returns t)
+    (array-size-of-requires t)
+    (array-enum-known-count t)
+    (array-enum-told-2 t)
+    (array-returns-2 t)
+    (array-push-requires t)
+    (array-enum-known-next t)
+    (array-enum-told-3 t)
+    (array-same-length t)
+    (array-returns-3 t)
+    (array-add-entries t)
+    (array-sub-entries t)
+    (array-entries-requires t)
+    (array-same-length-2 t)
+    (array-same-length-3 t)
+    (array-returns-4 t))
+    (λ t. entries-lts.spec
+    (entries-uses t) (entries-at t) entries.Post
+    entries-Inv-loop
+    entries-μ-loop
+    (entries-loop-holds t)
+    (entries-value-requires t)
+    (entries-enum-known-r t)
+    (entries-enum-told t)
+    (entries-same-length t)
+    (entries-same-length-2 t)
+    (entries-returns t)
+    (entries-sub-k t)
+    (entries-loop-less t)
+    (entries-loop-again t)
+    (entries-same-length-3 t)
+    (entries-same-length-4 t)
+    (entries-returns-2 t))
+    (λ t. fields-lts.spec (fields-uses t) (fields-at t) fields.Post
+    fields-Inv-loop
+    fields-μ-loop
+    (fields-loop-holds t)
+    (fields-is-omittable-requires t)
+    (fields-end-at-requires t)
+    (fields-value-requires t)
+    (fields-enum-known-r t)
+    (fields-enum-told t)
+    (fields-same-length t)
+    (fields-same-length-2 t)
+    (fields-returns t)
+    (fields-sub-k t)
+    (fields-loop-less t)
+    (fields-loop-again t)
+    (fields-same-length-3 t)
+    (fields-same-length-4 t)
+    (fields-returns-2 t))
+    (λ t. record-lts.spec (record-uses t) (record-at t) record.Post
+    (record-is-bare-requires t)
+    (record-returns t)
+    (record-argument-at-requires t)
+    (record-push-requires t)
+    (record-enum-known-next t)
+    (record-enum-told t)
+    (record-same-length t)
+    (record-returns-2 t)
+    (record-add-fields t)
+    (record-sub-fields t)
+    (record-fields-requires t)
+    (record-same-length-2 t)
+    (record-same-length-3 t)
+    (record-returns-3 t))
+    (λ t. value-lts.spec (value-uses t) (value-at t) value.Post
+    (value-kind-at-requires t)
+    (value-open-requires t)
+    (value-enum-known-first t)
+    (value-enum-known-first-2 t)
+    (value-row-requires t)
+    (value-enum-known-first-3 t)
+    (value-below-requires t)
+    (value-wire-requires t)
+    (value-returns t)
+    (value-same-length t)
+    (value-returns-2 t)
+    (value-same-length-2 t)
+    (value-same-length-3 t)
+    (value-returns-3 t))
+    λ t. wire-lts.spec (wire-uses t) (wire-at t) wire.Post
+    (wire-kind-at-requires t)
+    (wire-boolean-requires t)
+    (wire-same-length t)
+    (wire-returns t)
+    (wire-record-requires t)
+    (wire-same-length-2 t)
+    (wire-same-length-3 t)
+    (wire-returns-2 t)
+    (wire-array-requires t)
+    (wire-same-length-4 t)
+    (wire-same-length-5 t)
+    (wire-returns-3 t)
+    (wire-block-requires t)
+    (wire-same-length-6 t)
+    (wire-same-length-7 t)
+    (wire-returns-4 t)

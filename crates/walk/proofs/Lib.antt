@@ -1,0 +1,4 @@
+pub mod Opens
+pub mod Fronts
+pub mod Values
+pub mod Loops

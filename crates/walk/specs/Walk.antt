@@ -1,0 +1,29 @@
+-- What each function of the walk has done: what the definition answers for the type that the table has at its node.
+use mathlib.Core.Path.{_≡_}
+use mathlib.Core.Bool.{Bool, false}
+use mathlib.Core.List.{List}
+use mathlib.Core.Option.{Option}
+use Prim.Native.Nat.{ℕ, _+_, _≤_}
+use lib.IntN.{ℤ}
+use Rattle.format.specs.Table.{Wire, Node, Fields}
+use Rattle.format.specs.Read.{inMessage, entries, wire, all, fieldCount}
+use Rattle.table.specs.Tree.{depthWire, depth, depthFields}
+use Rattle.label.specs.declared.cursor.Cursor.{Cursor}
+use Rattle.leaf.specs.declared.Step.{Step}
+use Rattle.leaf.specs.State.{Walks}
+use Rattle.walk.specs.Opening.{valueAt}
+use Rattle.typed.specs.Typed.{heldIn, IsNode, IsWire, AreFields}
+
+-- The work and the rows before and after a step that began with the core at c and n rows, over the type at a node.
+module _ (m work work′ before now : List ℕ) (c : Cursor) (n : ℕ) (r : Step) (table : List ℕ) (modes node : ℕ) where
+  pub record ReadsValue (omittable : Bool) : Type 0 where
+    pub does : (v : Node) (path : ℕ) → IsNode table work node v → path + depth v ≤ 32 → Walks m work work′ c n before now r (valueAt m modes (heldIn table) path omittable v)
+
+  pub record ReadsWire (front : Option ℤ) : Type 0 where
+    pub does : (v : Wire) (path : ℕ) → IsWire table work node v → path + depthWire v ≤ 32 → Walks m work work′ c n before now r (wire (inMessage m) modes (heldIn table) v path front)
+
+  pub record ReadsFields (count : ℕ) : Type 0 where
+    pub does : (ws : Fields) (path : ℕ) → AreFields table work node ws → fieldCount ws ≡ count → path + depthFields ws ≤ 32 → Walks m work work′ c n before now r (all (inMessage m) modes (heldIn table) ws path)
+
+  pub record ReadsEntries (count : ℕ) : Type 0 where
+    pub does : (v : Node) (path : ℕ) → IsNode table work node v → path + depth v ≤ 32 → Walks m work work′ c n before now r (entries (inMessage m) count (valueAt m modes (heldIn table) path false v))

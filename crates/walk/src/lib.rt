@@ -1,0 +1,244 @@
+// The walk over the nodes of a checked table: a value asks for its fields or its entries, and those may be records and
+// arrays again.
+ghost use mathlib.Core.Path.{_≡_};
+ghost use mathlib.Core.Bool.{false};
+ghost use Prim.Native.Nat.{_+_, _*_, _≤_, _<_};
+ghost use lib.ListN.{length};
+ghost use Rattle.format.specs.Table.{nodeAt, RECORD, ARRAY, BLOCK};
+ghost use Rattle.pieces.specs.Pieces.{Inside};
+ghost use Rattle.leaf.specs.State.{Ready};
+ghost use Rattle.leaf.specs.Meaning.{frontOf};
+ghost use Rattle.typed.specs.Typed.{Sized, FitsNode, FitsWire, FitFields};
+ghost use Rattle.walk.specs.Walk.{ReadsValue, ReadsWire, ReadsFields, ReadsEntries};
+
+pub mod opening;
+
+use label::Cursor;
+use label::Label;
+use leaf::Step;
+use leaf::front;
+use leaf::front::Front;
+use leaf::front::Size;
+use leaf::push;
+use leaf::push::Put;
+use opening::Opening;
+use rows::kind;
+use table::nodes;
+
+// The value of a BLOCK.
+fn block(
+    table: &[u8],
+    m: &[u8],
+    rows: &mut [u64],
+    work: &mut [u32],
+    modes: u64,
+    node: usize,
+    front: Front,
+    c: Cursor,
+    n: usize,
+) -> Step
+    requires { ⌜ Ready (now m) (now work) × Inside (now m) c × (nodeAt (now table) node .kind ≡ BLOCK) × (nodeAt (now table) node .argument < 32) × (15 + 4 * node ≤ length (now table)) ⌝ }
+    ensures { λ r. ⌜ ReadsWire (now (m .entry)) (now (work .entry)) (now (work .exit)) (now (rows .entry)) (now (rows .exit)) c n r (now (table .entry)) modes node (frontOf front) ⌝ }
+{
+    let key = nodes::argument_at(table, node);
+    let leaf = nodes::leaf_at(table, node + 1);
+    let dedup = nodes::deduplicates(table, node);
+    leaf::read_leaf(m, rows, work, modes, key, leaf, dedup, front, c, n)
+}
+
+// The value at a node, on a path of at most `left` nodes from here on.
+pub fn value(
+    table: &[u8],
+    m: &[u8],
+    rows: &mut [u64],
+    work: &mut [u32],
+    modes: u64,
+    node: usize,
+    omittable: bool,
+    c: Cursor,
+    n: usize,
+    left: usize,
+) -> Step
+    requires { ⌜ Ready (now m) (now work) × Inside (now m) c × Sized (now table) × FitsNode (now table) (now work) left node ⌝ }
+    ensures { λ r. ⌜ ReadsValue (now (m .entry)) (now (work .entry)) (now (work .exit)) (now (rows .entry)) (now (rows .exit)) c n r (now (table .entry)) modes node omittable ⌝ }
+{
+    let nullable = nodes::kind_at(table, node) == nodes::NULLABLE;
+    let first = opening::open(m, modes, omittable, nullable, c);
+    match first {
+        Opening::Refused(number) => Step::Refused(number),
+        Opening::Gone(row, next) => push::row(rows, n, row, 0, 0, next),
+        Opening::Here(front, next) => {
+            let i = opening::below(nullable, node);
+            wire(table, m, rows, work, modes, i, front, next, n, left)
+        }
+    }
+}
+
+// By the kind of the value's own node.
+fn wire(
+    table: &[u8],
+    m: &[u8],
+    rows: &mut [u64],
+    work: &mut [u32],
+    modes: u64,
+    node: usize,
+    front: Front,
+    c: Cursor,
+    n: usize,
+    left: usize,
+) -> Step
+    requires { ⌜ Ready (now m) (now work) × Inside (now m) c × Sized (now table) × FitsWire (now table) (now work) left node ⌝ }
+    ensures { λ r. ⌜ ReadsWire (now (m .entry)) (now (work .entry)) (now (work .exit)) (now (rows .entry)) (now (rows .exit)) c n r (now (table .entry)) modes node (frontOf front) ⌝ }
+{
+    let kind = nodes::kind_at(table, node);
+    if kind == nodes::BOOLEAN {
+        return leaf::boolean(m, rows, front, c, n);
+    }
+    if kind == nodes::RECORD {
+        return record(table, m, rows, work, modes, node, front, c, n, left);
+    }
+    if kind == nodes::ARRAY {
+        return array(table, m, rows, work, modes, node, front, c, n, left);
+    }
+    block(table, m, rows, work, modes, node, front, c, n)
+}
+
+fn record(
+    table: &[u8],
+    m: &[u8],
+    rows: &mut [u64],
+    work: &mut [u32],
+    modes: u64,
+    node: usize,
+    front: Front,
+    c: Cursor,
+    n: usize,
+    left: usize,
+) -> Step
+    requires { ⌜ Ready (now m) (now work) × Inside (now m) c × Sized (now table) × FitsWire (now table) (now work) left node × (nodeAt (now table) node .kind ≡ RECORD) ⌝ }
+    ensures { λ r. ⌜ ReadsWire (now (m .entry)) (now (work .entry)) (now (work .exit)) (now (rows .entry)) (now (rows .exit)) c n r (now (table .entry)) modes node (frontOf front) ⌝ }
+{
+    if !front::is_bare(front) {
+        return Step::Refused(24);
+    }
+    let count = nodes::argument_at(table, node);
+    let Put::Next(next) = push::push(rows, n, kind::RECORD, count as u64, 0) else {
+        return Step::Refused(31);
+    };
+    fields(
+        table,
+        m,
+        rows,
+        work,
+        modes,
+        node + 1,
+        c,
+        next,
+        left - 1,
+        count,
+    )
+}
+
+fn array(
+    table: &[u8],
+    m: &[u8],
+    rows: &mut [u64],
+    work: &mut [u32],
+    modes: u64,
+    node: usize,
+    front: Front,
+    c: Cursor,
+    n: usize,
+    left: usize,
+) -> Step
+    requires { ⌜ Ready (now m) (now work) × Inside (now m) c × Sized (now table) × FitsWire (now table) (now work) left node × (nodeAt (now table) node .kind ≡ ARRAY) ⌝ }
+    ensures { λ r. ⌜ ReadsWire (now (m .entry)) (now (work .entry)) (now (work .exit)) (now (rows .entry)) (now (rows .exit)) c n r (now (table .entry)) modes node (frontOf front) ⌝ }
+{
+    let Label::Got(l, core) = front::own_label(m, front, c) else {
+        return Step::Refused(23);
+    };
+    let Size::Of(count) = front::size_of(l) else {
+        return Step::Refused(24);
+    };
+    let Put::Next(next) = push::push(rows, n, kind::ARRAY, count as u64, 0) else {
+        return Step::Refused(31);
+    };
+    entries(
+        table,
+        m,
+        rows,
+        work,
+        modes,
+        node + 1,
+        core,
+        next,
+        left - 1,
+        count,
+    )
+}
+
+// So many fields, the first of them at `node`.
+fn fields(
+    table: &[u8],
+    m: &[u8],
+    rows: &mut [u64],
+    work: &mut [u32],
+    modes: u64,
+    node: usize,
+    c: Cursor,
+    n: usize,
+    left: usize,
+    count: usize,
+) -> Step
+    requires { ⌜ Ready (now m) (now work) × Inside (now m) c × Sized (now table) × FitFields (now table) (now work) left node count ⌝ }
+    ensures { λ r. ⌜ ReadsFields (now (m .entry)) (now (work .entry)) (now (work .exit)) (now (rows .entry)) (now (rows .exit)) c n r (now (table .entry)) modes node count ⌝ }
+{
+    let mut k = count;
+    let mut at = node;
+    let mut core = c;
+    let mut i = n;
+    while k != 0 {
+        let omittable = nodes::is_omittable(table, at);
+        let end = nodes::end_at(work, at);
+        let r = value(table, m, rows, work, modes, at, omittable, core, i, left);
+        let Step::Done(after, count_now) = r else {
+            return r;
+        };
+        at = end;
+        core = after;
+        i = count_now;
+        k -= 1;
+    }
+    Step::Done(core, i)
+}
+
+// So many values of the type at `node`.
+fn entries(
+    table: &[u8],
+    m: &[u8],
+    rows: &mut [u64],
+    work: &mut [u32],
+    modes: u64,
+    node: usize,
+    c: Cursor,
+    n: usize,
+    left: usize,
+    count: usize,
+) -> Step
+    requires { ⌜ Ready (now m) (now work) × Inside (now m) c × Sized (now table) × FitsNode (now table) (now work) left node ⌝ }
+    ensures { λ r. ⌜ ReadsEntries (now (m .entry)) (now (work .entry)) (now (work .exit)) (now (rows .entry)) (now (rows .exit)) c n r (now (table .entry)) modes node count ⌝ }
+{
+    let mut k = count;
+    let mut core = c;
+    let mut i = n;
+    while k != 0 {
+        let r = value(table, m, rows, work, modes, node, false, core, i, left);
+        let Step::Done(next, count_now) = r else {
+            return r;
+        };
+        core = next;
+        i = count_now;
+        k -= 1;
+    }
+    Step::Done(core, i)
+}
