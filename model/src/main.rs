@@ -2,12 +2,16 @@ use std::collections::BTreeMap;
 use std::io::{self, BufWriter, Write};
 use std::process::ExitCode;
 
-use model::case::{judge, Verdict};
-use model::{bench, compare, gen, small};
+use model::case::{judge, Case, Verdict};
+use model::{bench, compare, gen, sample, small, store};
 
 const USAGE: &str = "\
 model vectors FILE                                       answer every line of FILE and compare
 model cases --seed S --count N [--kinds TRWLP]           print generated cases with answers
+model store DIR [--seed S] [--kinds TRWLP] [--blocks N]    stored cases for the program vectors, in DIR
+    [--with FILE]                                        with those of FILE among them
+model show FILE                                          the stored cases, one a line; each must be as the model stores it
+model sample DIR                                         a small night: DIR/night.table and DIR/night.message
 model small                                              search all spellings of small trees
 model compare --seed S --count N [--kinds TRWLP]         generated cases through libargo.a
     [--trace yes]                                        print each case before its call
@@ -31,6 +35,13 @@ fn run(words: &[&str]) -> Result<bool, String> {
     match words {
         ["vectors", file] => vectors(file),
         ["cases", rest @ ..] => cases(&Options::parse(rest)?),
+        ["store", dir, rest @ ..] => keep(dir, &Options::parse(rest)?),
+        ["show", file] => show(file),
+        ["sample", dir] => {
+            put(dir, "night.table", &sample::table())?;
+            put(dir, "night.message", &sample::message())?;
+            Ok(true)
+        }
         ["small"] => Ok(small::run()),
         ["compare", "--file", file] => compare::stored(&text(file)?),
         ["compare", rest @ ..] => {
@@ -50,11 +61,18 @@ fn text(file: &str) -> Result<String, String> {
     std::fs::read_to_string(file).map_err(|error| format!("{file}: {error}"))
 }
 
+fn put(dir: &str, name: &str, bytes: &[u8]) -> Result<(), String> {
+    let path = format!("{dir}/{name}");
+    std::fs::write(&path, bytes).map_err(|error| format!("{path}: {error}"))
+}
+
 struct Options {
     seed: u64,
     count: usize,
     kinds: String,
     trace: bool,
+    blocks: usize,
+    with: Option<String>,
 }
 
 impl Options {
@@ -64,6 +82,8 @@ impl Options {
             count: 1_000,
             kinds: gen::KINDS.to_string(),
             trace: false,
+            blocks: 4,
+            with: None,
         };
         for pair in words.chunks(2) {
             match *pair {
@@ -75,6 +95,8 @@ impl Options {
                     options.kinds = kinds.to_string()
                 }
                 ["--trace", "yes"] => options.trace = true,
+                ["--blocks", blocks] => options.blocks = blocks.parse().map_err(|_| USAGE)?,
+                ["--with", file] => options.with = Some(file.to_string()),
                 _ => return Err(USAGE.to_string()),
             }
         }
@@ -111,14 +133,44 @@ fn vectors(file: &str) -> Result<bool, String> {
 }
 
 fn cases(options: &Options) -> Result<bool, String> {
-    let mut out = BufWriter::new(io::stdout().lock());
     let mut cases = gen::Cases::new(options.seed, &options.kinds);
-    for _ in 0..options.count {
-        let case = cases.next_case();
+    print_cases((0..options.count).map(|_| cases.next_case()))
+}
+
+fn print_cases(cases: impl Iterator<Item = Case>) -> Result<bool, String> {
+    let mut out = BufWriter::new(io::stdout().lock());
+    for case in cases {
         // A closed pipe ends the listing, it is no fault.
         if writeln!(out, "{case} -> {}", case.answer()).is_err() {
             return Ok(true);
         }
     }
     Ok(true)
+}
+
+/// Stored cases as the input of a program and what it must write.
+fn keep(dir: &str, options: &Options) -> Result<bool, String> {
+    let given = match &options.with {
+        Some(file) => text(file)?
+            .lines()
+            .filter(|line| !line.trim().is_empty() && !line.starts_with('#'))
+            .map(|line| Case::parse(line.split(" -> ").next().unwrap_or(line)))
+            .collect::<Result<Vec<Case>, String>>()?,
+        None => Vec::new(),
+    };
+    let stored = store::Store::new(options.seed, &options.kinds, options.blocks, given);
+    let report = format!("{} cases, 0 differ\n", stored.count());
+    print!(
+        "{} bytes, {} cases left out; {report}",
+        stored.file.len(),
+        stored.left_out
+    );
+    put(dir, "stdin", &stored.file)?;
+    put(dir, "stdout", report.as_bytes())?;
+    Ok(true)
+}
+
+fn show(file: &str) -> Result<bool, String> {
+    let bytes = std::fs::read(file).map_err(|error| format!("{file}: {error}"))?;
+    print_cases(store::decode(&bytes)?.into_iter())
 }

@@ -4,6 +4,7 @@
 use super::damage::{EDGE_LABELS, NO_LABELS};
 use super::trees::EDGE_WORDS;
 use crate::case::Case;
+use crate::small::text_record;
 use crate::table::{self, file, Node, WireType};
 use crate::{label, rows, spell, INLINE_EVERYTHING, MAX_NODES, MAX_PATH, MODES, WORK_WORDS};
 
@@ -353,12 +354,15 @@ pub fn array_chain(depth: usize, text: bool) -> Vec<Node> {
     nodes
 }
 
-fn messages(cases: &mut Vec<Case>) {
-    cases.extend(cells().iter().map(Cell::case));
+/// The first message of the sheet, for table R.
+const FIRST: &[u8] = b"\x00\x04ok\x02\x01\x02\x04";
+
+/// The sheet's messages, and the mistakes that look right.
+pub fn sheet() -> Vec<Case> {
     let (r, s, e) = (table_r(), table_s(), table_e());
-    let first = b"\x00\x04ok\x02\x01\x02\x04";
+    let mut cases = Vec::new();
     for message in [
-        &first[..],
+        FIRST,
         b"\x00\x02\x0a\x02\x01",
         b"\x00\x14\xff\xff\xff\xff\xff\xff\xff\xff\xff\x01\x02\x01",
         b"\x00\x14\xff\xff\xff\xff\xff\xff\xff\xff\xff\x02\x02\x01",
@@ -415,9 +419,54 @@ fn messages(cases: &mut Vec<Case>) {
     ] {
         cases.push(read(&table_omittable_record(), message));
     }
+    // One numbering for each key: the first of either, and what one for both would say.
+    let two_keys = [&[n(7, 0, 4)][..], &two_texts(), &two_texts()].concat();
+    cases.push(read(&two_keys, b"\x00\x02a\x02b\x08\x02\x02\x07\x07"));
+    cases.push(read(&two_keys, b"\x00\x02a\x02b\x08\x02\x02\x07\x09"));
+    // A record under NULLABLE has its 0; a count alone is not trusted; -2^63 names nothing.
+    let nullable_record = [n(10, 0, 0), n(7, 0, 1), n(2, 0, 0)];
+    cases.push(read(&nullable_record, b"\x00\x04\x00\x02"));
+    cases.push(read(&nullable_record, b"\x00\x02\x02"));
+    let truths = [n(8, 0, 0), n(2, 0, 0)];
+    cases.push(read(
+        &truths,
+        b"\x00\x14\xfe\xff\xff\xff\xff\xff\xff\xff\xff\x01",
+    ));
+    cases.push(read(
+        &s,
+        b"\x00\x16\x02\xff\xff\xff\xff\xff\xff\xff\xff\xff\x01",
+    ));
+    // The same tree in 130 bytes and in 129: the last text named, and written out.
+    let texts = text_record(63);
+    for last in [&b"\x81\x01"[..], b"\x02"] {
+        let mut block: Vec<u8> = (1..=62).collect();
+        if last.len() == 1 {
+            block.push(62);
+        }
+        let mut core = vec![2; 62];
+        core.extend(last);
+        let pieces = spell::Pieces {
+            blocks: vec![block],
+            core,
+            ..spell::Pieces::default()
+        };
+        cases.push(read(&texts, &pieces.message()));
+    }
+    cases
+}
+
+/// Two deduplicated texts under different keys.
+pub fn two_texts() -> [Node; 4] {
+    [n(9, 2, 0), n(1, 0, 0), n(9, 2, 1), n(1, 0, 0)]
+}
+
+fn messages(cases: &mut Vec<Case>) {
+    cases.extend(cells().iter().map(Cell::case));
+    cases.extend(sheet());
+    let (r, s) = (table_r(), table_s());
     // Every first byte, with what follows for pieces and for mode 0.
     for header in 0..=255u8 {
-        for rest in [&first[1..], b"\x04ok\x01", b"\x00\x04ok\x02\x01\x02\x04"] {
+        for rest in [&FIRST[1..], b"\x04ok\x01", b"\x00\x04ok\x02\x01\x02\x04"] {
             let mut message = vec![header];
             message.extend(rest);
             cases.push(read(&r, &message));
@@ -445,7 +494,7 @@ fn messages(cases: &mut Vec<Case>) {
             work: WORK_WORDS,
             rows,
             table: file(&r),
-            message: first.to_vec(),
+            message: FIRST.to_vec(),
         });
     }
     for work in [0, WORK_WORDS - 1, WORK_WORDS + 1] {
@@ -453,7 +502,7 @@ fn messages(cases: &mut Vec<Case>) {
             work,
             rows: 10,
             table: file(&r),
-            message: first.to_vec(),
+            message: FIRST.to_vec(),
         });
     }
     // Values of eight and of three bytes, with one byte less and one more.

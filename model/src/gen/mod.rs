@@ -2,6 +2,7 @@
 
 pub mod damage;
 pub mod fixed;
+pub mod limits;
 pub mod trees;
 
 use crate::case::Case;
@@ -307,7 +308,7 @@ fn loose_rows(rng: &mut Rng) -> Vec<u64> {
     words
 }
 
-fn assemble(modes: u64, blocks: Vec<Vec<u8>>, core: Vec<u8>) -> Vec<u8> {
+pub fn assemble(modes: u64, blocks: Vec<Vec<u8>>, core: Vec<u8>) -> Vec<u8> {
     Pieces {
         header: (modes << 1) as u8,
         blocks,

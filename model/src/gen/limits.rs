@@ -1,0 +1,185 @@
+//! Both sides of every limit that only a large case can reach; the fixed list has the small ones.
+
+use super::assemble;
+use super::fixed::{array_chain, read, table_e, table_s, two_texts, OUT, ROWS};
+use crate::case::Case;
+use crate::table::{self, file, Node};
+use crate::{
+    label, rows, INLINE_EVERYTHING, MAX_BYTES, MAX_NUMBERED, MAX_ROWS, NO_DEDUPLICATION, WORK_WORDS,
+};
+
+pub fn cases() -> Vec<Case> {
+    let mut cases = Vec::new();
+    longest_messages(&mut cases);
+    most_rows(&mut cases);
+    most_literals(&mut cases);
+    one_byte_numbers(&mut cases);
+    deepest_path(&mut cases);
+    all_keys(&mut cases);
+    longest_outputs(&mut cases);
+    cases
+}
+
+fn labelled(count: usize) -> Vec<u8> {
+    let mut core = Vec::new();
+    label::put(count as i64, &mut core);
+    core
+}
+
+/// A message for table S: texts all alike.
+fn alike(text: &[u8], count: usize, modes: u64) -> Vec<u8> {
+    let mut core = labelled(count);
+    let mut one = labelled(text.len());
+    if modes & INLINE_EVERYTHING != 0 {
+        one.extend(text);
+    }
+    core.extend(one.repeat(count));
+    assemble(modes, vec![text.repeat(count)], core)
+}
+
+fn lent(case: Case, lent: usize) -> Case {
+    match case {
+        Case::Read {
+            work,
+            table,
+            message,
+            ..
+        } => Case::Read {
+            work,
+            rows: lent,
+            table,
+            message,
+        },
+        other => other,
+    }
+}
+
+/// 20: 65,536 bytes and one more, in one text and in many empty blocks.
+fn longest_messages(cases: &mut Vec<Case>) {
+    for size in [MAX_BYTES, MAX_BYTES + 1] {
+        // What stands around the text, with pieces and inline.
+        for (modes, shell) in [(0, 9), (INLINE_EVERYTHING, 5)] {
+            let message = alike(&vec![b'x'; size - shell], 1, modes);
+            assert_eq!(message.len(), size);
+            cases.push(read(&table_s(), &message));
+        }
+        cases.push(read(&[Node::new(table::RECORD, 0, 0)], &vec![0; size]));
+    }
+    for len in [4_095, 4_096, 4_097] {
+        let nodes = [
+            Node::new(table::BLOCK, 0, 31),
+            Node::new(table::FIXED, 0, 4_096),
+        ];
+        let message = assemble(0, vec![vec![7; len]], Vec::new());
+        cases.push(read(&nodes, &message));
+    }
+}
+
+/// 31: 8,192 rows and one more, whatever is lent; and what is lent and one more.
+fn most_rows(cases: &mut Vec<Case>) {
+    for entries in [MAX_ROWS - 2, MAX_ROWS - 1, MAX_ROWS] {
+        let case = read(&table_e(), &assemble(0, vec![], labelled(entries)));
+        for rows in [ROWS - 3, ROWS - 1, ROWS, ROWS + 2, ROWS + 3] {
+            cases.push(lent(case.clone(), rows));
+        }
+    }
+}
+
+/// 32: 4,096 numbered literals and one more, of one key and of two; none without numbers.
+fn most_literals(cases: &mut Vec<Case>) {
+    let plain = [
+        Node::new(table::ARRAY, 0, 0),
+        Node::new(table::BLOCK, 0, 0),
+        Node::new(table::STRING, 0, 0),
+    ];
+    for count in [MAX_NUMBERED, MAX_NUMBERED + 1] {
+        cases.push(read(&table_s(), &alike(b"", count, 0)));
+        cases.push(read(&table_s(), &alike(b"", count, NO_DEDUPLICATION)));
+        cases.push(read(&plain, &alike(b"", count, 0)));
+        // 32 before 31, where the row would not fit either.
+        let case = read(&table_s(), &alike(b"", count, 0));
+        cases.push(lent(case.clone(), 3 * MAX_NUMBERED));
+        cases.push(lent(case, 3 * MAX_NUMBERED + 3));
+    }
+    let inline = alike(b"t", MAX_NUMBERED + 1, INLINE_EVERYTHING);
+    cases.push(read(&table_s(), &inline));
+    let pairs = [
+        &[
+            Node::new(table::ARRAY, 0, 0),
+            Node::new(table::RECORD, 0, 2),
+        ][..],
+        &two_texts(),
+    ]
+    .concat();
+    for count in [MAX_NUMBERED / 2, MAX_NUMBERED / 2 + 1] {
+        let mut core = labelled(count);
+        core.extend(vec![0; 2 * count]);
+        cases.push(read(&pairs, &assemble(0, vec![vec![], vec![]], core)));
+    }
+}
+
+/// The 61st number is the last of one byte; a number that has not been given is 26.
+fn one_byte_numbers(cases: &mut Vec<Case>) {
+    for literals in [60, 61, 62, 63] {
+        for number in literals - 1..=literals {
+            let mut core = labelled(literals + 1);
+            core.extend(vec![2; literals]);
+            label::put(-4 - number as i64, &mut core);
+            let block = (0..literals as u8).collect();
+            cases.push(read(&table_s(), &assemble(0, vec![block], core)));
+        }
+    }
+}
+
+/// A path of 32 nodes, read to its end; 33 are refused by the check.
+fn deepest_path(cases: &mut Vec<Case>) {
+    for depth in [32, 33] {
+        let nodes = array_chain(depth, true);
+        let mut core = vec![2; depth - 2];
+        core.push(4);
+        cases.push(read(&nodes, &assemble(0, vec![b"ok".to_vec()], core)));
+    }
+}
+
+/// All 32 keys, each with its block; one block fewer, one more.
+fn all_keys(cases: &mut Vec<Case>) {
+    let mut nodes = vec![Node::new(table::RECORD, 0, 32)];
+    for key in (0..32).rev() {
+        nodes.extend([
+            Node::new(table::BLOCK, 0, key),
+            Node::new(table::VARINT, 0, 0),
+        ]);
+    }
+    for blocks in 31..=33 {
+        let blocks = (0..blocks).map(|i| vec![2 * i]).collect();
+        cases.push(read(&nodes, &assemble(0, blocks, Vec::new())));
+    }
+}
+
+/// 41, 32 and 43 at their limits.
+fn longest_outputs(cases: &mut Vec<Case>) {
+    let text = |start: usize, len: usize| [rows::STRING, start as u64, len as u64];
+    let write = |nodes: &[Node], out, rows: Vec<u64>, pool: Vec<u8>| Case::Write {
+        work: WORK_WORDS,
+        out,
+        modes: 0,
+        table: file(nodes),
+        rows,
+        pool,
+    };
+    for entries in [MAX_ROWS - 1, MAX_ROWS] {
+        let mut list = vec![rows::ARRAY, entries as u64, 0];
+        list.extend([rows::RECORD, 0, 0].repeat(entries));
+        cases.push(write(&table_e(), OUT, list, Vec::new()));
+    }
+    for pool in [MAX_BYTES, MAX_BYTES + 1] {
+        let list = [[rows::ARRAY, 1, 0], text(0, 1)].concat();
+        cases.push(write(&table_s(), OUT, list, vec![b'p'; pool]));
+    }
+    for size in [MAX_BYTES - 9, MAX_BYTES - 8] {
+        for out in [OUT - 1, OUT, OUT + 1] {
+            let list = [[rows::ARRAY, 1, 0], text(0, size)].concat();
+            cases.push(write(&table_s(), out, list, vec![b'p'; size]));
+        }
+    }
+}
