@@ -1,0 +1,199 @@
+// The row of a value that a BLOCK holds.
+ghost use mathlib.Core.Bool.{false};
+ghost use Prim.Native.Nat.{_<_};
+ghost use Rattle.format.specs.Table.{string, varint, float64, bytes, fixed};
+ghost use Rattle.format.specs.Write.{fitLeaf};
+ghost use Rattle.fit.specs.Rest.{restOf};
+ghost use Rattle.fit.specs.Writes.{Holds};
+ghost use Rattle.fit.specs.Row.{WritesValue, WritesText, leafOf};
+use super::Pass;
+use super::Step;
+use super::next;
+use super::row;
+use super::row::Part;
+use super::row::Word;
+use emit::event;
+use emit::text;
+use rows::kind;
+use table::nodes::Leaf;
+
+fn string(
+    rows: &[u64],
+    pool: &[u8],
+    out: &mut [u8],
+    work: &mut [u32],
+    how: Pass,
+    numbered: bool,
+    key: usize,
+    i: usize,
+    core: usize,
+) -> Step
+    requires { ⌜ (Holds (now pool) (now rows) (now work) i core) × (key < 32) ⌝ }
+    ensures { λ r. ⌜ WritesText how numbered key (now (pool .entry)) (now (rows .entry)) (now (out .entry)) (now (work .entry)) core (now (out .exit)) (now (work .exit)) r (fitLeaf key string false (restOf (now (pool .entry)) (now (rows .entry)) i)) ⌝ }
+{
+    let Part::At(start, size) = row::part_at(rows, pool, kind::STRING, i) else {
+        return Step::Refused(42, i as u64);
+    };
+    if !utf8::is_text(pool, start, start + size) {
+        return Step::Refused(28, i as u64);
+    }
+    next(
+        i,
+        text::emit_text(
+            pool,
+            out,
+            work,
+            how.put,
+            how.inline,
+            numbered,
+            core,
+            key,
+            start,
+            size,
+        ),
+    )
+}
+
+fn bytes(
+    rows: &[u64],
+    pool: &[u8],
+    out: &mut [u8],
+    work: &mut [u32],
+    how: Pass,
+    numbered: bool,
+    key: usize,
+    i: usize,
+    core: usize,
+) -> Step
+    requires { ⌜ (Holds (now pool) (now rows) (now work) i core) × (key < 32) ⌝ }
+    ensures { λ r. ⌜ WritesText how numbered key (now (pool .entry)) (now (rows .entry)) (now (out .entry)) (now (work .entry)) core (now (out .exit)) (now (work .exit)) r (fitLeaf key bytes false (restOf (now (pool .entry)) (now (rows .entry)) i)) ⌝ }
+{
+    let Part::At(start, size) = row::part_at(rows, pool, kind::BYTES, i) else {
+        return Step::Refused(42, i as u64);
+    };
+    next(
+        i,
+        text::emit_text(
+            pool,
+            out,
+            work,
+            how.put,
+            how.inline,
+            numbered,
+            core,
+            key,
+            start,
+            size,
+        ),
+    )
+}
+
+fn varint(
+    rows: &[u64],
+    pool: &[u8],
+    out: &mut [u8],
+    work: &mut [u32],
+    how: Pass,
+    labelled: bool,
+    key: usize,
+    i: usize,
+    core: usize,
+) -> Step
+    requires { ⌜ (Holds (now pool) (now rows) (now work) i core) × (key < 32) ⌝ }
+    ensures { λ r. ⌜ WritesValue how (now (pool .entry)) (now (rows .entry)) (now (out .entry)) (now (work .entry)) core (now (out .exit)) (now (work .exit)) r (fitLeaf key varint labelled (restOf (now (pool .entry)) (now (rows .entry)) i)) ⌝ }
+{
+    let Word::Is(a) = row::word_at(rows, pool, kind::INTEGER, i) else {
+        return Step::Refused(42, i as u64);
+    };
+    next(
+        i,
+        event::emit_varint(out, work, how.put, how.inline, labelled, core, key, a),
+    )
+}
+
+fn float64(
+    rows: &[u64],
+    pool: &[u8],
+    out: &mut [u8],
+    work: &mut [u32],
+    how: Pass,
+    labelled: bool,
+    key: usize,
+    i: usize,
+    core: usize,
+) -> Step
+    requires { ⌜ (Holds (now pool) (now rows) (now work) i core) × (key < 32) ⌝ }
+    ensures { λ r. ⌜ WritesValue how (now (pool .entry)) (now (rows .entry)) (now (out .entry)) (now (work .entry)) core (now (out .exit)) (now (work .exit)) r (fitLeaf key float64 labelled (restOf (now (pool .entry)) (now (rows .entry)) i)) ⌝ }
+{
+    let Word::Is(a) = row::word_at(rows, pool, kind::FLOAT, i) else {
+        return Step::Refused(42, i as u64);
+    };
+    next(
+        i,
+        event::emit_float(out, work, how.put, how.inline, labelled, core, key, a),
+    )
+}
+
+fn fixed(
+    rows: &[u64],
+    pool: &[u8],
+    out: &mut [u8],
+    work: &mut [u32],
+    how: Pass,
+    labelled: bool,
+    key: usize,
+    n: usize,
+    i: usize,
+    core: usize,
+) -> Step
+    requires { ⌜ (Holds (now pool) (now rows) (now work) i core) × (key < 32) ⌝ }
+    ensures { λ r. ⌜ WritesValue how (now (pool .entry)) (now (rows .entry)) (now (out .entry)) (now (work .entry)) core (now (out .exit)) (now (work .exit)) r (fitLeaf key (fixed n) labelled (restOf (now (pool .entry)) (now (rows .entry)) i)) ⌝ }
+{
+    let Part::At(start, size) = row::part_at(rows, pool, kind::FIXED, i) else {
+        return Step::Refused(42, i as u64);
+    };
+    if size != n {
+        return Step::Refused(42, i as u64);
+    }
+    next(
+        i,
+        event::emit_fixed(
+            pool,
+            out,
+            work,
+            how.put,
+            how.inline,
+            labelled,
+            core,
+            key,
+            start,
+            size,
+        ),
+    )
+}
+
+// The value of a key that holds `leaf`; are its texts numbered?
+pub fn leaf(
+    rows: &[u64],
+    pool: &[u8],
+    out: &mut [u8],
+    work: &mut [u32],
+    how: Pass,
+    leaf: Leaf,
+    numbered: bool,
+    labelled: bool,
+    key: usize,
+    i: usize,
+    core: usize,
+) -> Step
+    requires { ⌜ (Holds (now pool) (now rows) (now work) i core) × (key < 32) ⌝ }
+    ensures { λ r. ⌜ WritesText how numbered key (now (pool .entry)) (now (rows .entry)) (now (out .entry)) (now (work .entry)) core (now (out .exit)) (now (work .exit)) r (fitLeaf key (leafOf leaf) labelled (restOf (now (pool .entry)) (now (rows .entry)) i)) ⌝ }
+{
+    match leaf {
+        Leaf::String => string(rows, pool, out, work, how, numbered, key, i, core),
+        Leaf::Bytes => bytes(rows, pool, out, work, how, numbered, key, i, core),
+        Leaf::Varint => varint(rows, pool, out, work, how, labelled, key, i, core),
+        Leaf::Float64 => float64(rows, pool, out, work, how, labelled, key, i, core),
+        Leaf::Fixed(n) => fixed(rows, pool, out, work, how, labelled, key, n, i, core),
+    }
+}

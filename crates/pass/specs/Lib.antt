@@ -1,0 +1,2 @@
+-- What a pass over the rows does.
+pub mod Pass

@@ -1,0 +1,297 @@
+// One pass over the rows, along the nodes of a checked table: a value asks for its fields or its entries, and those may be
+// records and arrays again.
+ghost use mathlib.Core.Path.{_≡_};
+ghost use mathlib.Core.Bool.{false};
+ghost use Prim.Native.Nat.{_+_, _*_, _≤_, _<_, _^_};
+ghost use lib.ListN.{length};
+ghost use Rattle.format.specs.Table.{nodeAt, RECORD, ARRAY, BLOCK};
+ghost use Rattle.typed.specs.Typed.{Sized, FitsNode, FitsWire, FitFields, below as belowOf};
+ghost use Rattle.fit.specs.Writes.{Holds};
+ghost use Rattle.pass.specs.Pass.{WritesNode, WritesWire, WritesFields, WritesEntries};
+use fit::Opening;
+use fit::Pass;
+use fit::Step;
+use fit::row;
+use fit::row::Word;
+use rows::kind;
+use table::nodes;
+
+// The value's own node, below a NULLABLE or not.
+fn below(nullable: bool, node: usize) -> usize
+    requires { ⌜ node < 1024 ⌝ }
+    ensures { λ r. ⌜ r ≡ belowOf nullable node ⌝ }
+{
+    if nullable {
+        return node + 1;
+    }
+    node
+}
+
+// The value of a BLOCK.
+fn block(
+    table: &[u8],
+    rows: &[u64],
+    pool: &[u8],
+    out: &mut [u8],
+    work: &mut [u32],
+    how: Pass,
+    labelled: bool,
+    node: usize,
+    i: usize,
+    core: usize,
+) -> Step
+    requires { ⌜ (Holds (now pool) (now rows) (now work) i core) × (nodeAt (now table) node .kind ≡ BLOCK) × (nodeAt (now table) node .argument < 32) × (15 + 4 * node ≤ length (now table)) ⌝ }
+    ensures { λ r. ⌜ WritesWire how (now (table .entry)) (now (pool .entry)) (now (rows .entry)) (now (out .entry)) (now (work .entry)) core (now (out .exit)) (now (work .exit)) r i node labelled ⌝ }
+{
+    let key = nodes::argument_at(table, node);
+    let leaf = nodes::leaf_at(table, node + 1);
+    let numbered = nodes::deduplicates(table, node) & how.numbers;
+    fit::leaf::leaf(
+        rows,
+        pool,
+        out,
+        work,
+        how,
+        leaf,
+        numbered,
+        labelled,
+        key,
+        i,
+        core,
+    )
+}
+
+// The value at a node, on a path of at most `left` nodes from here on.
+pub fn value(
+    table: &[u8],
+    rows: &[u64],
+    pool: &[u8],
+    out: &mut [u8],
+    work: &mut [u32],
+    how: Pass,
+    omittable: bool,
+    node: usize,
+    i: usize,
+    core: usize,
+    left: usize,
+) -> Step
+    requires { ⌜ (Holds (now pool) (now rows) (now work) i core) × Sized (now table) × FitsNode (now table) (now work) left node ⌝ }
+    ensures { λ r. ⌜ WritesNode how (now (table .entry)) (now (pool .entry)) (now (rows .entry)) (now (out .entry)) (now (work .entry)) core (now (out .exit)) (now (work .exit)) r i node omittable ⌝ }
+{
+    let nullable = nodes::kind_at(table, node) == nodes::NULLABLE;
+    let first = fit::open_value(rows, pool, out, how.put, omittable, nullable, i, core);
+    match first {
+        Opening::Gone(step) => step,
+        Opening::Here(labelled) => {
+            let own = below(nullable, node);
+            wire(
+                table,
+                rows,
+                pool,
+                out,
+                work,
+                how,
+                labelled,
+                own,
+                i,
+                core,
+                left,
+            )
+        }
+    }
+}
+
+// By the kind of the value's own node.
+fn wire(
+    table: &[u8],
+    rows: &[u64],
+    pool: &[u8],
+    out: &mut [u8],
+    work: &mut [u32],
+    how: Pass,
+    labelled: bool,
+    node: usize,
+    i: usize,
+    core: usize,
+    left: usize,
+) -> Step
+    requires { ⌜ (Holds (now pool) (now rows) (now work) i core) × Sized (now table) × FitsWire (now table) (now work) left node ⌝ }
+    ensures { λ r. ⌜ WritesWire how (now (table .entry)) (now (pool .entry)) (now (rows .entry)) (now (out .entry)) (now (work .entry)) core (now (out .exit)) (now (work .exit)) r i node labelled ⌝ }
+{
+    let kind = nodes::kind_at(table, node);
+    if kind == nodes::BOOLEAN {
+        return fit::boolean(rows, pool, out, how.put, i, core);
+    }
+    if kind == nodes::RECORD {
+        return record(
+            table,
+            rows,
+            pool,
+            out,
+            work,
+            how,
+            labelled,
+            node,
+            i,
+            core,
+            left,
+        );
+    }
+    if kind == nodes::ARRAY {
+        return array(table, rows, pool, out, work, how, node, i, core, left);
+    }
+    block(table, rows, pool, out, work, how, labelled, node, i, core)
+}
+
+fn record(
+    table: &[u8],
+    rows: &[u64],
+    pool: &[u8],
+    out: &mut [u8],
+    work: &mut [u32],
+    how: Pass,
+    labelled: bool,
+    node: usize,
+    i: usize,
+    core: usize,
+    left: usize,
+) -> Step
+    requires { ⌜ (Holds (now pool) (now rows) (now work) i core) × Sized (now table) × FitsWire (now table) (now work) left node × (nodeAt (now table) node .kind ≡ RECORD) ⌝ }
+    ensures { λ r. ⌜ WritesWire how (now (table .entry)) (now (pool .entry)) (now (rows .entry)) (now (out .entry)) (now (work .entry)) core (now (out .exit)) (now (work .exit)) r i node labelled ⌝ }
+{
+    let count = nodes::argument_at(table, node);
+    let r = fit::record(rows, pool, out, how.put, labelled, count, i, core);
+    let Step::Done(next, end) = r else {
+        return r;
+    };
+    fields(
+        table,
+        rows,
+        pool,
+        out,
+        work,
+        how,
+        node + 1,
+        count,
+        next,
+        end,
+        left - 1,
+    )
+}
+
+fn array(
+    table: &[u8],
+    rows: &[u64],
+    pool: &[u8],
+    out: &mut [u8],
+    work: &mut [u32],
+    how: Pass,
+    node: usize,
+    i: usize,
+    core: usize,
+    left: usize,
+) -> Step
+    requires { ⌜ (Holds (now pool) (now rows) (now work) i core) × Sized (now table) × FitsWire (now table) (now work) left node × (nodeAt (now table) node .kind ≡ ARRAY) ⌝ }
+    ensures { λ r. ⌜ WritesWire how (now (table .entry)) (now (pool .entry)) (now (rows .entry)) (now (out .entry)) (now (work .entry)) core (now (out .exit)) (now (work .exit)) r i node false ⌝ }
+{
+    let Word::Is(count) = row::word_at(rows, pool, kind::ARRAY, i) else {
+        return Step::Refused(42, i as u64);
+    };
+    // a count that is no label has no rows enough for it, and any label will do
+    let r = fit::mark(out, how.put, i, core, label::integer_of(count));
+    let Step::Done(next, end) = r else {
+        return r;
+    };
+    entries(
+        table,
+        rows,
+        pool,
+        out,
+        work,
+        how,
+        node + 1,
+        count,
+        next,
+        end,
+        left - 1,
+    )
+}
+
+// So many fields, from a node on.
+fn fields(
+    table: &[u8],
+    rows: &[u64],
+    pool: &[u8],
+    out: &mut [u8],
+    work: &mut [u32],
+    how: Pass,
+    node: usize,
+    count: usize,
+    i: usize,
+    core: usize,
+    left: usize,
+) -> Step
+    requires { ⌜ (Holds (now pool) (now rows) (now work) i core) × Sized (now table) × FitFields (now table) (now work) left node count ⌝ }
+    ensures { λ r. ⌜ WritesFields how (now (table .entry)) (now (pool .entry)) (now (rows .entry)) (now (out .entry)) (now (work .entry)) core (now (out .exit)) (now (work .exit)) r i node count ⌝ }
+{
+    let mut k = count;
+    let mut at = node;
+    let mut n = i;
+    let mut end = core;
+    while k != 0 {
+        let omittable = nodes::is_omittable(table, at);
+        let r = value(
+            table,
+            rows,
+            pool,
+            out,
+            work,
+            how,
+            omittable,
+            at,
+            n,
+            end,
+            left,
+        );
+        let Step::Done(next, further) = r else {
+            return r;
+        };
+        at = nodes::end_at(work, at);
+        n = next;
+        end = further;
+        k -= 1;
+    }
+    Step::Done(n, end)
+}
+
+// So many entries of one type. A count may be any word: the first row that is missing ends them.
+fn entries(
+    table: &[u8],
+    rows: &[u64],
+    pool: &[u8],
+    out: &mut [u8],
+    work: &mut [u32],
+    how: Pass,
+    node: usize,
+    count: u64,
+    i: usize,
+    core: usize,
+    left: usize,
+) -> Step
+    requires { ⌜ (Holds (now pool) (now rows) (now work) i core) × Sized (now table) × FitsNode (now table) (now work) left node ⌝ }
+    ensures { λ r. ⌜ WritesEntries how (now (table .entry)) (now (pool .entry)) (now (rows .entry)) (now (out .entry)) (now (work .entry)) core (now (out .exit)) (now (work .exit)) r i node count ⌝ }
+{
+    let mut k = count;
+    let mut n = i;
+    let mut end = core;
+    while k != 0 {
+        let r = value(table, rows, pool, out, work, how, false, node, n, end, left);
+        let Step::Done(next, further) = r else {
+            return r;
+        };
+        n = next;
+        end = further;
+        k -= 1;
+    }
+    Step::Done(n, end)
+}
