@@ -6,7 +6,7 @@ use native.Mathlib.Nat.{sub-zero}
 use native.Mathlib.Omega.{arith}
 use lib.ListN.{length, take, drop, length-append, length-drop, drop-of-length-le}
 use lib.Seq.{sets, sets-eq, take-at, drop-at, take-length}
-use Rattle.format.specs.Answer.{Answer, refuse, number, second, output, zeros, padded}
+use Rattle.format.specs.Answer.{Answer, number, second, output, zeros, padded}
 use Rattle.format.specs.Row.{Place, Row, rowWidth, words}
 use Rattle.label.specs.declared.cursor.Cursor.{Cursor}
 use Rattle.table.specs.declared.Answer as code

@@ -1,8 +1,8 @@
 -- The answers for a whole message, one after another.
 use mathlib.Core.Path.{_≡_, refl, sym, ap, _∙_, subst}
-use mathlib.Core.Bool.{Bool, true, false, not, _&&_, and-eq-true-iff}
+use mathlib.Core.Bool.{Bool, true, false, not, and-eq-true-iff}
 use mathlib.Core.List.{List, []}
-use Prim.Native.Nat.{ℕ, _+_, _-_, _*_, _/_, _<_, _≤_, min}
+use Prim.Native.Nat.{ℕ, _+_, _≤_}
 use native.Mathlib.Omega.{arith}
 use lib.Dec.{leb}
 use lib.ListN.{length, getD}
@@ -10,8 +10,7 @@ use lib.Seq.{sets}
 use borrow.Author.Tests.{not-true, not-false, leb-true}
 use Rattle.format.specs.Answer.{Answer, ok, refuse, _>>=_, _>>_, need, needAt}
 use Rattle.format.specs.Modes.{inlineEverything, readHeader}
-use Rattle.format.specs.Table.{Held}
-use Rattle.format.specs.Row.{Place, Row, rowWidth, words}
+use Rattle.format.specs.Row.{Place, Row, words}
 use Rattle.format.specs.Read.{Reading, inMessage, State, split, noLiterals, walk, isDone, readChecked}
 use Rattle.label.specs.declared.cursor.Cursor.{Cursor}
 use Rattle.pieces.specs.declared.Header as pieces

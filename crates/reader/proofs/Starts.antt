@@ -1,25 +1,25 @@
 -- What a walk begins with: the store is empty, and the blocks wait.
-use mathlib.Core.Path.{_≡_, refl, sym, ap, _∙_, subst}
-use mathlib.Core.Bool.{Bool, true, false}
+use mathlib.Core.Path.{_≡_, sym, ap, _∙_, subst}
+use mathlib.Core.Bool.{true, false}
 use mathlib.Core.List.{List, []}
-use mathlib.Core.Option.{Option, none, some}
-use Prim.Native.Nat.{ℕ, _+_, _-_, _/_, _%_, _<_, _≤_}
+use mathlib.Core.Option.{some}
+use Prim.Native.Nat.{ℕ, _/_, _%_, _<_, _≤_}
 use native.Mathlib.Nat.{sub-zero}
 use native.Mathlib.Omega.{arith}
-use lib.Dec.{eqb, leb}
+use lib.Dec.{leb}
 use lib.ListN.{length}
 use borrow.Author.Tests.{eq-eqb, ne-eqb, le-leb, lt-leb}
-use Rattle.format.specs.Answer.{Answer, ok, refuse, _>>=_}
+use Rattle.format.specs.Answer.{ok, refuse, _>>=_}
 use Rattle.format.specs.Modes.{has, inlineEverything}
-use Rattle.format.specs.Read.{Reading, inMessage, State, split, noLiterals}
+use Rattle.format.specs.Read.{Reading, split, noLiterals}
 use Rattle.label.specs.declared.cursor.Cursor.{Cursor}
 use Rattle.pieces.specs.declared.Parts.{Parts}
 use Rattle.pieces.specs.declared.Parts.the-variants.{Found, Bad}
 use Rattle.pieces.specs.Chain.{waitingOf, waiting-none}
-use Rattle.pieces.specs.Pieces.{readingOf, Inside, Blocks, no-blocks, partsOf, Stand, Parted}
-use Rattle.store.specs.Store.{Store, empty, lookup, rested}
-use Rattle.store.specs.Words.{storeOf, Good, Changes}
-use Rattle.leaf.specs.State.{Ready, Same, cursorOf, stateOf}
+use Rattle.pieces.specs.Pieces.{readingOf, Blocks, no-blocks, partsOf, Stand, Parted}
+use Rattle.store.specs.Store.{empty, lookup, rested}
+use Rattle.store.specs.Words.{storeOf, Changes}
+use Rattle.leaf.specs.State.{Ready, Same, stateOf}
 use Rattle.reader.specs.declared.Begun as begun
 use Rattle.reader.specs.Reader.{isSized, start, Begins}
 

@@ -1,15 +1,15 @@
 -- Whether everything has been read, as the code tells it: a reading place inside the message has been read when it stands at its end.
-use mathlib.Core.Path.{_≡_, refl, sym, ap, _∙_, subst}
+use mathlib.Core.Path.{_≡_, refl, sym, ap, _∙_}
 use mathlib.Core.Bool.{Bool, true, false, cond, _&&_}
-use mathlib.Core.List.{List, [], _∷_}
-use mathlib.Core.Option.{Option, some, Option·some-injective}
-use Prim.Native.Nat.{ℕ, zero, suc, _+_, _-_, _<_, _≤_, min}
+use mathlib.Core.List.{List}
+use mathlib.Core.Option.{some, Option·some-injective}
+use Prim.Native.Nat.{ℕ, zero, suc, _+_, _-_, _<_, _≤_}
 use native.Mathlib.Numerals.{add-one}
 use native.Mathlib.Omega.{arith}
 use lib.Dec.{eqb}
 use lib.ListN.{length, take, drop, length-take, length-drop, drop-of-length-le}
-use borrow.Author.Tests.{eq-eqb, ne-eqb, eqb-true, eqb-false}
-use Rattle.format.specs.Read.{Reading, inMessage, State, nth, isRead, allRead, isDone}
+use borrow.Author.Tests.{eq-eqb, ne-eqb, eqb-true}
+use Rattle.format.specs.Read.{Reading, inMessage, nth, isRead, allRead, isDone}
 use Rattle.label.specs.declared.cursor.Cursor.{Cursor}
 use Rattle.pieces.specs.Chain.{waitingOf, none-waiting}
 use Rattle.pieces.specs.Pieces.{readingOf, Inside}
@@ -20,7 +20,7 @@ use Rattle.store.specs.Store.{lookup}
 use Rattle.store.specs.Words.{keyOf, readingOf as placeOf, slotOf, slotCount, slotsOf, storeOf}
 use Rattle.store.specs.Meaning.{touched, reading}
 use Rattle.store.specs.Laws.{drop-nth}
-use Rattle.leaf.specs.State.{Ready, cursorOf, stateOf}
+use Rattle.leaf.specs.State.{Ready, cursorOf}
 use Rattle.reader.specs.Reader.{AllRead, IsDone}
 
 read-length : (m : List ℕ) (p : Reading) → Inside m (cursorOf p) → length (take (p .end - p .at) (drop (p .at) m)) ≡ p .end - p .at

@@ -22,6 +22,7 @@ pub enum Begun {
     Bad,
 }
 
+// Whether there are as many bytes as there may be.
 fn is_sized(m: &[u8]) -> bool
     ensures { λ r. ⌜ r ≡ isSized (now (m .entry)) ⌝ }
 {
@@ -50,7 +51,7 @@ fn begin(m: &[u8], work: &mut [u32], modes: u64) -> Begun
     Begun::Core(core)
 }
 
-// The rows from the first on, and how many there are.
+// 20 to 22, the walk, and then 30: the rows from the first on, and how many there are.
 fn rows_of(table: &[u8], m: &[u8], rows: &mut [u64], work: &mut [u32]) -> Step
     requires { ⌜ Kept (now table) (now work) ⌝ }
     ensures { λ r. ⌜ Gives (now (table .entry)) (now (rows .entry)) (now (rows .exit)) (now (work .exit)) r (rowsOf (now (table .entry)) (now (m .entry)) (length (now (rows .entry)))) ⌝ }
@@ -112,6 +113,8 @@ pub fn read_checked(table: &[u8], message: &[u8], rows: &mut [u64], work: &mut [
     answer_of(r)
 }
 
+// Any message under any table; what the buffers held before makes no difference. On success the rows stand in front and
+// zeros behind them; after a refusal all are zeros, and so is the work in either case.
 pub fn read(table: &[u8], message: &[u8], rows: &mut [u64], work: &mut [u32]) -> Answer
     ensures { λ r. ⌜ r .number ≡ number (readOf (length (now (work .entry))) (now (table .entry)) (now (message .entry)) (length (now (rows .entry)))) ⌝ }
     ensures { λ r. ⌜ r .second ≡ second (λ rs. length rs) (readOf (length (now (work .entry))) (now (table .entry)) (now (message .entry)) (length (now (rows .entry)))) ⌝ }

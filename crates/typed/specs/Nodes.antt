@@ -1,12 +1,12 @@
 -- What a node's type says of the table, by the node's kind.
 use mathlib.Core.Path.{_≡_, refl, ap, sym, _∙_}
-use mathlib.Core.Bool.{Bool, true, false}
+use mathlib.Core.Bool.{Bool}
 use mathlib.Core.List.{List}
-use Prim.Native.Nat.{ℕ, zero, suc, _+_, _-_, _*_, _<_, _≤_, max}
+use Prim.Native.Nat.{ℕ, suc, _+_, _-_, _*_, _<_, _≤_}
 use native.Mathlib.Omega.{arith}
 use lib.Dec.{eqb}
 use lib.ListN.{length}
-use Rattle.format.specs.Table.{u16, nodeAt, omittable, BOOLEAN, RECORD, ARRAY, BLOCK, NULLABLE, Wire, boolean, array, fields, block, Node, plain, nullable, Fields, noField, field, wireOf}
+use Rattle.format.specs.Table.{u16, nodeAt, omittable, BOOLEAN, RECORD, ARRAY, BLOCK, NULLABLE, Wire, boolean, array, fields, block, Node, plain, nullable, Fields, field, wireOf}
 use Rattle.format.specs.Read.{wireNodes, nodesOf, fieldCount}
 use Rattle.table.specs.Tree.{sizeWire, size, depthWire, depth, depthFields, Has, HasWire}
 use Rattle.table.specs.Kinds.{kindOf, kindOfNode, wire-top, node-top, by-record, by-array, by-field, has-kept}

@@ -1,6 +1,6 @@
 -- What the functions on the labels in front of a value answer.
 use mathlib.Core.Path.{_≡_, refl, ap, _∙_, sym}
-use mathlib.Core.Bool.{Bool, true, false, not, cond, _||_}
+use mathlib.Core.Bool.{Bool, true, false, cond, _||_}
 use mathlib.Core.List.{List}
 use mathlib.Core.Option.{none, some}
 use Prim.Native.Nat.{ℕ, _/_, _%_}
@@ -8,12 +8,11 @@ use lib.IntN.{ℤ}
 use borrow.Author.Tests.{eq-eqb, ne-eqb}
 use Rattle.format.specs.Answer.{Answer, ok, refuse, _>>=_, _>>_, needAt}
 use Rattle.format.specs.Modes.{has, outOfBandFieldErrors}
-use Rattle.format.specs.Read.{inMessage, State, nullLabel, absentLabel, errorLabel, isLabel, isNull, takeLabel, ownLabel}
+use Rattle.format.specs.Read.{nullLabel, absentLabel, errorLabel, isLabel, isNull, ownLabel}
 use Rattle.label.specs.declared.cursor.Cursor.{Cursor}
 use Rattle.label.specs.declared.cursor.Label as label
 use Rattle.pieces.specs.Pieces.{Inside}
 use Rattle.leaf.specs.declared.front.Front.the-variants.{Open, Label}
-use Rattle.leaf.specs.State.{Ready, stateOf, Takes}
 use Rattle.leaf.specs.Meaning.{labelOf}
 use Rattle.leaf.specs.Takes.{took-ends, took-refuses, took-ready, took-inside, then-takes, then-takes-not}
 use Rattle.leaf.specs.Contracts.{Owns}

@@ -1,13 +1,13 @@
 -- The loops over fields and over entries: what holds at each turn, and that it goes on to the whole.
 use mathlib.Core.Path.{_≡_, refl, sym, ap, _∙_, subst}
 use mathlib.Core.Bool.{Bool, false}
-use mathlib.Core.List.{List, [], _∷_, _++_}
-use Prim.Native.Nat.{ℕ, zero, suc, _+_, _-_, _≤_, max}
+use mathlib.Core.List.{List, [], _++_}
+use Prim.Native.Nat.{ℕ, zero, suc, _+_, _-_, _≤_}
 use native.Mathlib.Numerals.{sub-one}
 use native.Mathlib.Omega.{arith}
 use lib.ListN.{length}
-use Rattle.format.specs.Answer.{Answer, ok, refuse, _>>=_}
-use Rattle.format.specs.Table.{u16, nodeAt, omittable, Node, Fields, noField, field, Held}
+use Rattle.format.specs.Answer.{Answer, ok, _>>=_}
+use Rattle.format.specs.Table.{nodeAt, omittable, Node, Fields, field, Held}
 use Rattle.format.specs.Row.{Place, Row}
 use Rattle.format.specs.Read.{inMessage, State, Read, entries, all, fieldCount}
 use Rattle.table.specs.Tree.{size, depth, depthFields}
@@ -71,8 +71,8 @@ module _ (table m w₀ l₀ : List ℕ) (modes node count : ℕ) (c₀ : Cursor)
     entry-does {w₁} {l₁} {r} v path h d y = subst (λ i. Does m (mostRows i) w w₁ n l l₁ r (valueAt m modes (heldIn table) path false v (stateOf m (mostRows i) w c n))) (x .lent)
         (y .does v path (node-kept table w₀ w node v whole (x .same .at) h) d)
 
-    pub entries-not : {w₁ l₁ : List ℕ} {r : Step} {e : ℕ} → (k ≡ 0 → ⊥) → ReadsValue m w w₁ l l₁ c n r table modes node false → r ≡ Refused e → ReadsEntries m w₀ w₁ l₀ l₁ c₀ n₀ r table modes node count
-    entries-not z y q = record { does = λ v path h d. x .leads v path h d .onward (along (entries-some k _ _ z) (seqs-not _ _ (entry-does v path h d y) q)) }
+    pub entries-not : {w₁ l₁ : List ℕ} {r r′ : Step} {e : ℕ} → (k ≡ 0 → ⊥) → ReadsValue m w w₁ l l₁ c n r table modes node false → r ≡ Refused e → r′ ≡ r → ReadsEntries m w₀ w₁ l₀ l₁ c₀ n₀ r′ table modes node count
+    entries-not z y q u = rw u (record { does = λ v path h d. x .leads v path h d .onward (along (entries-some k _ _ z) (seqs-not _ _ (entry-does v path h d y) q)) })
 
     pub entries-again : {left n₁ : ℕ} {w₁ l₁ : List ℕ} {c₁ : Cursor} {r : Step} → FitsNode table w₀ left node → (k ≡ 0 → ⊥) → length l₁ ≡ length l → length w₁ ≡ length w
         → ReadsValue m w w₁ l l₁ c n r table modes node false → r ≡ Done c₁ n₁ → EntriesAt table m w₀ l₀ modes node count c₀ n₀ w₁ l₁ (k - 1) c₁ n₁
@@ -191,9 +191,9 @@ module _ (table m w₀ l₀ : List ℕ) (modes node₀ count : ℕ) (c₀ : Curs
             rest = λ ws h e. field-next ws h e z b v q;
           }
 
-    pub fields-not : {w₁ l₁ : List ℕ} {r : Step} {e : ℕ} {o : Bool} → (k ≡ 0 → ⊥) → o ≡ omittable (nodeAt table node) → ReadsValue m w w₁ l l₁ c n r table modes node o → r ≡ Refused e
-        → ReadsFields m w₀ w₁ l₀ l₁ c₀ n₀ r table modes node₀ count
-    fields-not z t y q = record { does = λ ws path h e d. x .rest ws h e .leads path d .onward (along (rest-splits ws h e z path _) (seqs-not _ _ (field-does ws h e z path d (rw t at y)) q)) }
+    pub fields-not : {w₁ l₁ : List ℕ} {r r′ : Step} {e : ℕ} {o : Bool} → (k ≡ 0 → ⊥) → o ≡ omittable (nodeAt table node) → ReadsValue m w w₁ l l₁ c n r table modes node o → r ≡ Refused e → r′ ≡ r
+        → ReadsFields m w₀ w₁ l₀ l₁ c₀ n₀ r′ table modes node₀ count
+    fields-not z t y q u = rw u (record { does = λ ws path h e d. x .rest ws h e .leads path d .onward (along (rest-splits ws h e z path _) (seqs-not _ _ (field-does ws h e z path d (rw t at y)) q)) })
 
     pub fields-end : k ≡ 0 → ReadsFields m w₀ w l₀ l c₀ n₀ (Done c n) table modes node₀ count
     fields-end z = record {

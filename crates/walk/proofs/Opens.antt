@@ -1,14 +1,13 @@
 -- A value is read by what stands in front of it, and then what is left.
 use mathlib.Core.Path.{_≡_, refl}
-use mathlib.Core.Bool.{Bool, true, false, cond, _||_}
+use mathlib.Core.Bool.{Bool, true, false, cond}
 use mathlib.Core.List.{List}
 use mathlib.Core.Option.{none, some}
 use Prim.Native.Nat.{ℕ, suc, _+_, _≤_}
-use lib.Dec.{leb}
 use lib.IntN.{ℤ}
 use borrow.Author.Tests.{le-leb}
 use Rattle.format.specs.Answer.{Answer, ok, refuse, _>>=_, _>>_, needAt}
-use Rattle.format.specs.Table.{Wire, Node, plain, nullable, Held, wireOf}
+use Rattle.format.specs.Table.{Node, plain, nullable, Held, wireOf}
 use Rattle.format.specs.Row.{Place, Row, bare, nullRow, absentRow}
 use Rattle.format.specs.Read.{inMessage, State, absentLabel, isLabel, isNull, takeLabel, rowOr, ownLabel, value, node, wire, nodesOf}
 use Rattle.typed.specs.Typed.{isNullable}

@@ -2,17 +2,16 @@
 use mathlib.Core.Path.{_≡_, refl, sym, ap, _∙_, subst}
 use mathlib.Core.Bool.{Bool, true, false, not}
 use mathlib.Core.List.{List, [], _∷_}
-use mathlib.Core.Option.{Option}
 use Prim.Native.Nat.{ℕ, suc, _+_, _-_, _≤_}
 use native.Mathlib.Omega.{arith}
 use lib.Dec.{eqb}
-use lib.IntN.{ℤ, pos, negsuc}
+use lib.IntN.{ℤ}
 use lib.ListN.{length}
 use borrow.Author.Tests.{not-true, not-false}
-use Rattle.format.specs.Answer.{Answer, ok, refuse, _>>=_, _>>_, needAt}
-use Rattle.format.specs.Table.{u16, nodeAt, deduplicate, NULLABLE, BOOLEAN, RECORD, ARRAY, BLOCK, Wire, boolean, array, fields, block, Node, Fields, Leaf, string, varint, float64, bytes, fixed, Held, leafOf, wireOf}
+use Rattle.format.specs.Answer.{Answer, ok, _>>=_, _>>_, needAt}
+use Rattle.format.specs.Table.{u16, nodeAt, deduplicate, NULLABLE, BOOLEAN, RECORD, ARRAY, BLOCK, Node, Fields, Leaf, leafOf, wireOf}
 use Rattle.format.specs.Row.{Place, Row, bare, rowWords, recordRow, arrayRow}
-use Rattle.format.specs.Read.{inMessage, State, ownLabel, noLabel, countOf, takeRow, oneRow, entries, wire, all, leaf, readText, fromKey, fieldCount}
+use Rattle.format.specs.Read.{inMessage, State, ownLabel, countOf, takeRow, entries, wire, all, leaf, fieldCount}
 use Rattle.table.specs.Tree.{depthWire, depth, depthFields, HasFields}
 use Rattle.table.specs.Kinds.{by-boolean, by-record, by-array, by-block}
 use Rattle.table.specs.Held.{leafIn, leaf-held, dedup-held}
@@ -21,7 +20,7 @@ use Rattle.label.specs.declared.cursor.Label as label
 use Rattle.pieces.specs.Pieces.{Inside}
 use Rattle.table.specs.declared.nodes.Leaf as code
 use Rattle.leaf.specs.declared.Step.{Step}
-use Rattle.leaf.specs.declared.Step.the-variants.{Done, Refused}
+use Rattle.leaf.specs.declared.Step.the-variants.{Refused}
 use Rattle.leaf.specs.declared.front.Front.{Front}
 use Rattle.leaf.specs.declared.front.Size.{Size}
 use Rattle.leaf.specs.declared.front.Size.the-variants.{Of, Below}
@@ -38,7 +37,7 @@ use Rattle.store.specs.Words.{word}
 use Rattle.typed.specs.Typed.{heldIn, IsNode, IsWire, FitsNode, FitsWire, FitFields, isNullable, below, pathTo}
 use Rattle.typed.specs.Nodes.{nodes-depth, nullable-is, wire-of, path-wire, fits-wire, fits-fields}
 use Rattle.walk.specs.declared.opening.Opening as opening
-use Rattle.walk.specs.Opening.{gone, here, opened, openedOf, Opens, rest, valueAt}
+use Rattle.walk.specs.Opening.{opened, openedOf, Opens, rest, valueAt}
 use Rattle.walk.specs.Walk.{ReadsValue, ReadsWire, ReadsFields, ReadsEntries}
 use Rattle.walk.proofs.Opens.{onward, value-opens}
 
@@ -161,19 +160,19 @@ module _ (table m w l : List ℕ) (modes node n : ℕ) (front : Front) (c : Curs
 
 -- ---- a value with nothing below it
 
-pub boolean-reads : (table m w l l′ : List ℕ) (modes node n : ℕ) (front : Front) (c : Cursor) (r : Step) → nodeAt table node .kind ≡ BOOLEAN → Ready m w → Boolean m front c n l l′ r
+pub boolean-does : (table m w l l′ : List ℕ) (modes node n : ℕ) (front : Front) (c : Cursor) (r : Step) → nodeAt table node .kind ≡ BOOLEAN → Ready m w → Boolean m front c n l l′ r
     → ReadsWire m w w l l′ c n r table modes node (frontOf front)
-boolean-reads table m w l l′ modes node n front c r k ready x = record {
+boolean-does table m w l l′ modes node n front c r k ready x = record {
   does = λ v path h d.
       by-boolean _ _ _ _ (λ u. Walks m w w c n l l′ r (wire (inMessage m) modes (heldIn table) u path (frontOf front))) node v h k (x .does modes (heldIn table) path w ready);
 }
 
-pub block-reads : (table m w w′ l l′ : List ℕ) (modes node n : ℕ) (front : Front) (c : Cursor) (r : Step) (key : ℕ) (a : code.Leaf) (dedup : Bool) → nodeAt table node .kind ≡ BLOCK
+pub block-does : (table m w w′ l l′ : List ℕ) (modes node n : ℕ) (front : Front) (c : Cursor) (r : Step) (key : ℕ) (a : code.Leaf) (dedup : Bool) → nodeAt table node .kind ≡ BLOCK
     → key ≡ nodeAt table node .argument → a ≡ leafIn (leafOf (nodeAt table (node + 1))) → dedup ≡ deduplicate (nodeAt table node)
     → Walks m w w′ c n l l′ r (leaf (inMessage m) modes (λ i. heldOf a dedup) key (heldLeaf a) (frontOf front))
     → ReadsWire m w w′ l l′ c n r table modes node (frontOf front)
 unfolding wire
-block-reads table m w w′ l l′ modes node n front c r key a dedup k e₁ e₂ e₃ x = record {
+block-does table m w w′ l l′ modes node n front c r key a dedup k e₁ e₂ e₃ x = record {
   does = λ v path h d.
       by-block _ _ _ _ (λ u. Walks m w w′ c n l l′ r (wire (inMessage m) modes (heldIn table) u path (frontOf front))) node v h k
       (λ b. held-walks modes (heldIn table) (nodeAt table node .argument) (frontOf front) c (e₂ ∙ leaf-held b) (e₃ ∙ dedup-held b) (rw e₁ at x));

@@ -25,6 +25,16 @@ use opening::Opening;
 use rows::kind;
 use table::nodes;
 
+// The same answer, made anew: a copy of it would copy the bytes behind a refusal's number too, which takes longer.
+fn again(r: Step) -> Step
+    ensures { λ same. ⌜ same ≡ r ⌝ }
+{
+    match r {
+        Step::Refused(number) => Step::Refused(number),
+        Step::Done(core, n) => Step::Done(core, n),
+    }
+}
+
 // The value of a BLOCK.
 fn block(
     table: &[u8],
@@ -46,7 +56,8 @@ fn block(
     leaf::read_leaf(m, rows, work, modes, key, leaf, dedup, front, c, n)
 }
 
-// The value at a node, on a path of at most `left` nodes from here on.
+// The value at a node, on a path of at most `left` nodes from here on. No path of a checked table has more than 32, so
+// that 33 never comes.
 pub fn value(
     table: &[u8],
     m: &[u8],
@@ -74,7 +85,7 @@ pub fn value(
     }
 }
 
-// By the kind of the value's own node.
+// By the kind of the value's own node. `front` is a label in front of it that has been read.
 fn wire(
     table: &[u8],
     m: &[u8],
@@ -103,6 +114,7 @@ fn wire(
     block(table, m, rows, work, modes, node, front, c, n)
 }
 
+// Unlabelled: a label in front of it is 0.
 fn record(
     table: &[u8],
     m: &[u8],
@@ -139,6 +151,7 @@ fn record(
     )
 }
 
+// The entries are walked one by one, however many the label says there are.
 fn array(
     table: &[u8],
     m: &[u8],
@@ -201,12 +214,12 @@ fn fields(
         let omittable = nodes::is_omittable(table, at);
         let end = nodes::end_at(work, at);
         let r = value(table, m, rows, work, modes, at, omittable, core, i, left);
-        let Step::Done(after, count_now) = r else {
-            return r;
+        let Step::Done(after, written) = r else {
+            return again(r);
         };
         at = end;
         core = after;
-        i = count_now;
+        i = written;
         k -= 1;
     }
     Step::Done(core, i)
@@ -232,12 +245,13 @@ fn entries(
     let mut core = c;
     let mut i = n;
     while k != 0 {
-        let r = value(table, m, rows, work, modes, node, false, core, i, left);
-        let Step::Done(next, count_now) = r else {
-            return r;
+        let entry = core;
+        let r = value(table, m, rows, work, modes, node, false, entry, i, left);
+        let Step::Done(next, written) = r else {
+            return again(r);
         };
         core = next;
-        i = count_now;
+        i = written;
         k -= 1;
     }
     Step::Done(core, i)

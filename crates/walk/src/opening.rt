@@ -1,4 +1,4 @@
-// What stands in front of a value.
+// What stands in front of a value that may be absent or null.
 ghost use mathlib.Core.Path.{_≡_};
 ghost use mathlib.Core.Bool.{true};
 ghost use Prim.Native.Nat.{_<_};
@@ -26,7 +26,7 @@ pub enum Meant {
     Refused(u64),
 }
 
-// Under NULLABLE.
+// Under NULLABLE -1 is null, and -3 too where OutOfBandFieldErrors is set.
 fn null_label(modes: u64, l: i64) -> Meant
     ensures { λ r. ⌜ meantOf l r ≡ nullOr modes true l ⌝ }
 {
@@ -42,6 +42,7 @@ fn null_label(modes: u64, l: i64) -> Meant
     Meant::Here
 }
 
+// Of a value that may be null, or not.
 fn null_or(modes: u64, nullable: bool, l: i64) -> Meant
     ensures { λ r. ⌜ meantOf l r ≡ nullOr modes nullable l ⌝ }
 {
@@ -51,6 +52,7 @@ fn null_or(modes: u64, nullable: bool, l: i64) -> Meant
     Meant::Here
 }
 
+// And may be absent, or not: -2 is looked at first.
 fn absent_or(modes: u64, omittable: bool, nullable: bool, l: i64) -> Meant
     ensures { λ r. ⌜ meantOf l r ≡ absentOr modes omittable nullable l ⌝ }
 {
@@ -79,6 +81,7 @@ fn labelled(m: &[u8], modes: u64, omittable: bool, nullable: bool, c: Cursor) ->
     }
 }
 
+// Any other value has no label in front but its own.
 pub fn open(m: &[u8], modes: u64, omittable: bool, nullable: bool, c: Cursor) -> Opening
     requires { ⌜ Inside (now m) c ⌝ }
     ensures { λ r. ⌜ Opens (now (m .entry)) c r (opened (now (m .entry)) modes omittable nullable) ⌝ }

@@ -1,14 +1,16 @@
+-- The functions of the walk meet their contracts. `left` bounds the path from here on, and falls at each record and array.
+-- Who goes on from where a loop stands has done the whole.
 use borrow.Author.Needs.{needs}
 use native.Mathlib.Omega.{arith}
 use denote.Ref.{now}
-use mathlib.Core.Path.{_≡_, refl, ap, sym, _∙_}
+use mathlib.Core.Path.{ap, sym, _∙_}
 use mir.Syntax.{w64}
 use mir.ValLaws.{toZ-ofZ}
 use lib.Dec.{eqb}
 use Prim.Native.Nat.{_+_, _*_}
 use Rattle.typed.specs.Nodes.{node-inside, wire-inside, block-inside, fits-entry}
 use Rattle.walk.proofs.Loops.{EntriesAt, entries-begin, entries-fits, entries-not, entries-again, entries-end, FieldsAt, fields-begin, fields-fits, fields-not, fields-again, fields-end}
-use Rattle.walk.proofs.Values.{value-refused, value-gone, value-here, opened-inside, value-fits, record-24, record-31, record-then, record-fits, array-23, array-24, array-31, array-then, own-inside, boolean-reads}
+use Rattle.walk.proofs.Values.{value-refused, value-gone, value-here, opened-inside, value-fits, record-24, record-31, record-then, record-fits, array-23, array-24, array-31, array-then, own-inside, boolean-does}
 use Prim.Native.Nat.{ℕ, _<_}
 use borrow.Fn.Kinds.{In}
 use borrow.Fn.PlainCycle.{Measures, is, falls, and}
@@ -40,6 +42,7 @@ use Rattle.table.proofs.nodes.argument_at.Reads as argument-at-reads
 use Rattle.table.proofs.nodes.end_at.Reads as end-at-reads
 use Rattle.table.proofs.nodes.is_omittable.Reads as is-omittable-reads
 use Rattle.table.proofs.nodes.kind_at.Reads as kind-at-reads
+use Rattle.walk.proofs.again.Reads as again-reads
 use Rattle.walk.proofs.block.Reads as block-reads
 use Rattle.walk.proofs.opening.below.Reads as below-reads
 use Rattle.walk.proofs.opening.open.Reads as open-reads
@@ -110,16 +113,18 @@ abbrev record-uses : ℕ → record-lts.Claims
 record-uses t = (is-bare-reads.Asked, is-bare-reads.Learnt, argument-at-reads.Asked, argument-at-reads.Learnt, push-reads.Asked, push-reads.Learnt, fields-below t, fields.Post)
 
 abbrev fields-uses : ℕ → fields-lts.Claims
-fields-uses t = (is-omittable-reads.Asked, is-omittable-reads.Learnt, end-at-reads.Asked, end-at-reads.Learnt, value-below t, value.Post)
+fields-uses t = (is-omittable-reads.Asked, is-omittable-reads.Learnt, end-at-reads.Asked, end-at-reads.Learnt, value-below t, value.Post, again-reads.Asked, again-reads.Learnt)
 
 abbrev entries-uses : ℕ → entries-lts.Claims
-entries-uses t = (value-below t, value.Post)
+entries-uses t = (value-below t, value.Post, again-reads.Asked, again-reads.Learnt)
 
 abbrev array-uses : ℕ → array-lts.Claims
 array-uses t = (own-label-reads.Asked, own-label-reads.Learnt, size-of-reads.Asked, size-of-reads.Learnt, push-reads.Asked, push-reads.Learnt, entries-below t, entries.Post)
 
 array-own-label-requires : (t : ℕ) → array-lts.Need-own-label-requires (array-uses t) (array-at t) array.Post
-array-own-label-requires t c κs = c .before .before .before .before .pre .1 .1
+array-own-label-requires t c κs =
+    let c4 = c .before .before .before .before in
+    c4 .pre .1 .1
 
 array-enum-known-l : (t : ℕ) → array-lts.Need-enum-known-l (array-uses t) (array-at t) array.Post
 array-enum-known-l t c = search needs
@@ -128,7 +133,11 @@ array-enum-told : (t : ℕ) → array-lts.Need-enum-told (array-uses t) (array-a
 array-enum-told t c = search needs
 
 array-returns : (t : ℕ) → array-lts.Need-returns (array-uses t) (array-at t) array.Post
-array-returns t c = let a = c .before .before .before .before .before .before .before .args in array-23 (now (a .table)) (now (a .m)) (now (a .work)) (now (a .rows)) (a .modes) (a .node) (a .n) (a .front) (a .c) (c .before .before .before .before .before .before .before .pre .1 .4) (c .before .before .before .before .before .before .before .pre .1 .0) _ (c .before .before .own-label .ensures) (c .enum-told .given .1)
+array-returns t c =
+    let c2 = c .before .before in
+    let c7 = c2 .before .before .before .before .before in
+    let a = c7 .args in
+    array-23 (now (a .table)) (now (a .m)) (now (a .work)) (now (a .rows)) (a .modes) (a .node) (a .n) (a .front) (a .c) (c7 .pre .1 .4) (c7 .pre .1 .0) _ (c2 .own-label .ensures) (c .enum-told .given .1)
 
 array-size-of-requires : (t : ℕ) → array-lts.Need-size-of-requires (array-uses t) (array-at t) array.Post
 array-size-of-requires t c κs = search needs
@@ -140,7 +149,14 @@ array-enum-told-2 : (t : ℕ) → array-lts.Need-enum-told-2 (array-uses t) (arr
 array-enum-told-2 t c = search needs
 
 array-returns-2 : (t : ℕ) → array-lts.Need-returns-2 (array-uses t) (array-at t) array.Post
-array-returns-2 t c = let a = c .before .before .before .before .before .before .before .before .before .before .before .args in array-24 (now (a .table)) (now (a .m)) (now (a .work)) (now (a .rows)) (a .modes) (a .node) (a .n) (a .front) (a .c) (c .before .before .before .before .before .before .before .before .before .before .before .pre .1 .4) (c .before .before .before .before .before .before .before .before .before .before .before .pre .1 .0) _ (c .before .before .before .before .before .before .own-label .ensures) (c .before .before .before .before .l .given .1) _ (c .before .before .size-of .ensures ∙ toZ-ofZ w64 (c .before .before .before .before .l .given .0 .0) (record { sfits = c .before .before .before .known-told .given .0 .1 })) (c .enum-told2 .given .1)
+array-returns-2 t c =
+    let c2 = c .before .before in
+    let c3 = c2 .before in
+    let c4 = c3 .before in
+    let c6 = c4 .before .before in
+    let c11 = c6 .before .before .before .before .before in
+    let a = c11 .args in
+    array-24 (now (a .table)) (now (a .m)) (now (a .work)) (now (a .rows)) (a .modes) (a .node) (a .n) (a .front) (a .c) (c11 .pre .1 .4) (c11 .pre .1 .0) _ (c6 .own-label .ensures) (c4 .l .given .1) _ (c2 .size-of .ensures ∙ toZ-ofZ w64 (c4 .l .given .0 .0) (record { sfits = c3 .known-told .given .0 .1 })) (c .enum-told2 .given .1)
 
 array-push-requires : (t : ℕ) → array-lts.Need-push-requires (array-uses t) (array-at t) array.Post
 array-push-requires t c κs = search needs
@@ -155,16 +171,34 @@ array-same-length : (t : ℕ) → array-lts.Need-same-length (array-uses t) (arr
 array-same-length t c = search needs
 
 array-returns-3 : (t : ℕ) → array-lts.Need-returns-3 (array-uses t) (array-at t) array.Post
-array-returns-3 t c = let a = c .before .before .before .before .before .before .before .before .before .before .before .before .before .before .before .before .before .before .args in array-31 (now (a .table)) (now (a .m)) (now (a .work)) (now (a .rows)) (a .modes) (a .node) (a .n) (a .front) (a .c) (c .before .before .before .before .before .before .before .before .before .before .before .before .before .before .before .before .before .before .pre .1 .4) (c .before .before .before .before .before .before .before .before .before .before .before .before .before .before .before .before .before .before .pre .1 .0) _ (c .before .before .before .before .before .before .before .before .before .before .before .before .before .own-label .ensures) (c .before .before .before .before .before .before .before .before .before .before .before .l .given .1) _ (c .before .before .before .before .before .before .before .before .before .size-of .ensures ∙ toZ-ofZ w64 (c .before .before .before .before .before .before .before .before .before .before .before .l .given .0 .0) (record { sfits = c .before .before .before .before .before .before .before .before .before .before .known-told .given .0 .1 })) (c .before .before .before .before .before .before .before .count .given .1) _ (c .before .before .before .before .push .ensures .0) (c .enum-told3 .given .1)
+array-returns-3 t c =
+    let c4 = c .before .before .before .before in
+    let c7 = c4 .before .before .before in
+    let c9 = c7 .before .before in
+    let c10 = c9 .before in
+    let c11 = c10 .before in
+    let c13 = c11 .before .before in
+    let c18 = c13 .before .before .before .before .before in
+    let a = c18 .args in
+    array-31 (now (a .table)) (now (a .m)) (now (a .work)) (now (a .rows)) (a .modes) (a .node) (a .n) (a .front) (a .c) (c18 .pre .1 .4) (c18 .pre .1 .0) _ (c13 .own-label .ensures) (c11 .l .given .1) _ (c9 .size-of .ensures ∙ toZ-ofZ w64 (c11 .l .given .0 .0) (record { sfits = c10 .known-told .given .0 .1 })) (c7 .count .given .1) _ (c4 .push .ensures .0) (c .enum-told3 .given .1)
 
 array-add-entries : (t : ℕ) → array-lts.Need-add-entries (array-uses t) (array-at t) array.Post
-array-add-entries t c = omega (arith, wire-inside _ _ _ _ (c .before .before .before .before .before .before .before .before .before .before .before .before .before .before .before .before .before .before .before .before .before .pre .1 .3) (c .before .before .before .before .before .before .before .before .before .before .before .before .before .before .before .before .before .before .before .before .before .pre .1 .2) .1)
+array-add-entries t c =
+    let c21 = c .before .before .before .before .before .before .before .before .before .before .before .before .before .before .before .before .before .before .before .before .before in
+    omega (arith, wire-inside _ _ _ _ (c21 .pre .1 .3) (c21 .pre .1 .2) .1)
 
 array-sub-entries : (t : ℕ) → array-lts.Need-sub-entries (array-uses t) (array-at t) array.Post
-array-sub-entries t c = omega (arith, wire-inside _ _ _ _ (c .before .before .before .before .before .before .before .before .before .before .before .before .before .before .before .before .before .before .before .before .before .pre .1 .3) (c .before .before .before .before .before .before .before .before .before .before .before .before .before .before .before .before .before .before .before .before .before .pre .1 .2) .0)
+array-sub-entries t c =
+    let c21 = c .before .before .before .before .before .before .before .before .before .before .before .before .before .before .before .before .before .before .before .before .before in
+    omega (arith, wire-inside _ _ _ _ (c21 .pre .1 .3) (c21 .pre .1 .2) .0)
 
 array-entries-requires : (t : ℕ) → array-lts.Need-entries-requires (array-uses t) (array-at t) array.Post
-array-entries-requires t c κs = let a = c .before .before .before .before .before .before .before .before .before .before .before .before .before .before .before .before .before .before .before .before .before .args in (omega (arith, c .before .before .before .before .before .before .before .before .before .before .before .before .before .before .before .before .before .before .before .before .before .pre .0, wire-inside _ _ _ _ (c .before .before .before .before .before .before .before .before .before .before .before .before .before .before .before .before .before .before .before .before .before .pre .1 .3) (c .before .before .before .before .before .before .before .before .before .before .before .before .before .before .before .before .before .before .before .before .before .pre .1 .2) .0), (c .before .before .before .before .before .before .before .before .before .before .before .before .before .before .before .before .before .before .before .before .before .pre .1 .0, own-inside (now (a .table)) (now (a .m)) (now (a .work)) (now (a .rows)) (a .modes) (a .node) (a .n) (a .front) (a .c) (c .before .before .before .before .before .before .before .before .before .before .before .before .before .before .before .before .before .before .before .before .before .pre .1 .4) (c .before .before .before .before .before .before .before .before .before .before .before .before .before .before .before .before .before .before .before .before .before .pre .1 .0) _ (c .before .before .before .before .before .before .before .before .before .before .before .before .before .before .before .before .own-label .ensures) (c .before .before .before .before .before .before .before .before .before .before .before .before .before .before .l .given .1), c .before .before .before .before .before .before .before .before .before .before .before .before .before .before .before .before .before .before .before .before .before .pre .1 .2, fits-entry _ _ _ _ (c .before .before .before .before .before .before .before .before .before .before .before .before .before .before .before .before .before .before .before .before .before .pre .1 .3) (c .before .before .before .before .before .before .before .before .before .before .before .before .before .before .before .before .before .before .before .before .before .pre .1 .4)))
+array-entries-requires t c κs =
+    let c14 = c .before .before .before .before .before .before .before .before .before .before .before .before .before .before in
+    let c16 = c14 .before .before in
+    let c21 = c16 .before .before .before .before .before in
+    let a = c21 .args in
+    (omega (arith, c21 .pre .0, wire-inside _ _ _ _ (c21 .pre .1 .3) (c21 .pre .1 .2) .0), (c21 .pre .1 .0, own-inside (now (a .table)) (now (a .m)) (now (a .work)) (now (a .rows)) (a .modes) (a .node) (a .n) (a .front) (a .c) (c21 .pre .1 .4) (c21 .pre .1 .0) _ (c16 .own-label .ensures) (c14 .l .given .1), c21 .pre .1 .2, fits-entry _ _ _ _ (c21 .pre .1 .3) (c21 .pre .1 .4)))
 
 array-same-length-2 : (t : ℕ) → array-lts.Need-same-length-2 (array-uses t) (array-at t) array.Post
 array-same-length-2 t c = search needs
@@ -173,7 +207,18 @@ array-same-length-3 : (t : ℕ) → array-lts.Need-same-length-3 (array-uses t) 
 array-same-length-3 t c = search needs
 
 array-returns-4 : (t : ℕ) → array-lts.Need-returns-4 (array-uses t) (array-at t) array.Post
-array-returns-4 t c = let a = c .before .before .before .before .before .before .before .before .before .before .before .before .before .before .before .before .before .before .before .before .before .before .before .before .before .before .args in array-then (now (a .table)) (now (a .m)) (now (a .work)) (now (a .rows)) (a .modes) (a .node) (a .n) (a .front) (a .c) (c .before .before .before .before .before .before .before .before .before .before .before .before .before .before .before .before .before .before .before .before .before .before .before .before .before .before .pre .1 .4) (c .before .before .before .before .before .before .before .before .before .before .before .before .before .before .before .before .before .before .before .before .before .before .before .before .before .before .pre .1 .0) _ (c .before .before .before .before .before .before .before .before .before .before .before .before .before .before .before .before .before .before .before .before .before .own-label .ensures) (c .before .before .before .before .before .before .before .before .before .before .before .before .before .before .before .before .before .before .before .l .given .1) _ (c .before .before .before .before .before .before .before .before .before .before .before .before .before .before .before .before .before .size-of .ensures ∙ toZ-ofZ w64 (c .before .before .before .before .before .before .before .before .before .before .before .before .before .before .before .before .before .before .before .l .given .0 .0) (record { sfits = c .before .before .before .before .before .before .before .before .before .before .before .before .before .before .before .before .before .before .known-told .given .0 .1 })) (c .before .before .before .before .before .before .before .before .before .before .before .before .before .before .before .count .given .1) _ (c .before .before .before .before .before .before .before .before .before .before .before .before .push .ensures .0) (c .before .before .before .before .before .before .before .before .before .before .before .before .push .ensures .1) (c .before .before .before .before .before .before .before .before .next .given .1) (c .before .before .before .before .before .before .before .before .before .before .before .before .push .kept .0) (c .before .before .before .before .entries .ensures)
+array-returns-4 t c =
+    let c4 = c .before .before .before .before in
+    let c8 = c4 .before .before .before .before in
+    let c12 = c8 .before .before .before .before in
+    let c15 = c12 .before .before .before in
+    let c17 = c15 .before .before in
+    let c18 = c17 .before in
+    let c19 = c18 .before in
+    let c21 = c19 .before .before in
+    let c26 = c21 .before .before .before .before .before in
+    let a = c26 .args in
+    array-then (now (a .table)) (now (a .m)) (now (a .work)) (now (a .rows)) (a .modes) (a .node) (a .n) (a .front) (a .c) (c26 .pre .1 .4) (c26 .pre .1 .0) _ (c21 .own-label .ensures) (c19 .l .given .1) _ (c17 .size-of .ensures ∙ toZ-ofZ w64 (c19 .l .given .0 .0) (record { sfits = c18 .known-told .given .0 .1 })) (c15 .count .given .1) _ (c12 .push .ensures .0) (c12 .push .ensures .1) (c8 .next .given .1) (c12 .push .kept .0) (c4 .entries .ensures)
 
 abbrev entries-Inv-loop : entries-lts.InvT-loop
 entries-Inv-loop table m rows₀ work₀ modes node n left count k₀ core₀ i₀ rows work k core i = EntriesAt table m work₀ rows₀ modes node count core₀ n work rows k core i
@@ -182,10 +227,18 @@ abbrev entries-μ-loop : entries-lts.MeasureT-loop
 entries-μ-loop table m rows₀ work₀ modes node n left count k₀ core₀ i₀ rows work k core i = k
 
 entries-loop-holds : (t : ℕ) → entries-lts.Need-loop-holds (entries-uses t) (entries-at t) entries.Post entries-Inv-loop entries-μ-loop
-entries-loop-holds t c = let a = c .before .before .before .before .args in entries-begin (now (a .table)) (now (a .m)) (now (a .work)) (now (a .rows)) (a .modes) (a .node) (a .count) (a .c) (a .n) (c .before .before .before .before .pre .1 .0) (c .before .before .before .before .pre .1 .1)
+entries-loop-holds t c =
+    let c4 = c .before .before .before .before in
+    let a = c4 .args in
+    entries-begin (now (a .table)) (now (a .m)) (now (a .work)) (now (a .rows)) (a .modes) (a .node) (a .count) (a .c) (a .n) (c4 .pre .1 .0) (c4 .pre .1 .1)
 
 entries-value-requires : (t : ℕ) → entries-lts.Need-value-requires (entries-uses t) (entries-at t) entries.Post entries-Inv-loop entries-μ-loop
-entries-value-requires t c κs = let a = c .before .before .before .before .before .before .before .before .args in let x = c .before .before .before .loop in (omega (arith, c .before .before .before .before .before .before .before .before .pre .0), (x .inv .ready, x .inv .inside, c .before .before .before .before .before .before .before .before .pre .1 .2, entries-fits (now (a .table)) (now (a .m)) (now (a .work)) (now (a .rows)) (a .modes) (a .node) (a .count) (a .c) (a .n) (x .work) (x .rows) (x .k) (x .core) (x .i) (x .inv) (c .before .before .before .before .before .before .before .before .pre .1 .2) (c .before .before .before .before .before .before .before .before .pre .1 .3)))
+entries-value-requires t c κs =
+    let c3 = c .before .before .before in
+    let c8 = c3 .before .before .before .before .before in
+    let a = c8 .args in
+    let x = c3 .loop in
+    (omega (arith, c8 .pre .0), (x .inv .ready, x .inv .inside, c8 .pre .1 .2, entries-fits (now (a .table)) (now (a .m)) (now (a .work)) (now (a .rows)) (a .modes) (a .node) (a .count) (a .c) (a .n) (x .work) (x .rows) (x .k) (x .core) (x .i) (x .inv) (c8 .pre .1 .2) (c8 .pre .1 .3)))
 
 entries-enum-known-r : (t : ℕ) → entries-lts.Need-enum-known-r (entries-uses t) (entries-at t) entries.Post entries-Inv-loop entries-μ-loop
 entries-enum-known-r t c = search needs
@@ -193,14 +246,31 @@ entries-enum-known-r t c = search needs
 entries-enum-told : (t : ℕ) → entries-lts.Need-enum-told (entries-uses t) (entries-at t) entries.Post entries-Inv-loop entries-μ-loop
 entries-enum-told t c = search needs
 
+entries-again-requires : (t : ℕ) → entries-lts.Need-again-requires (entries-uses t) (entries-at t) entries.Post entries-Inv-loop entries-μ-loop
+entries-again-requires t c κs = search needs
+
 entries-same-length : (t : ℕ) → entries-lts.Need-same-length (entries-uses t) (entries-at t) entries.Post entries-Inv-loop entries-μ-loop
-entries-same-length t c = c .before .before .before .before .before .before .value .kept .1 .1 .0 ∙ c .before .before .before .before .before .before .before .before .before .before .loop .inv .lent
+entries-same-length t c =
+    let c7 = c .before .before .before .before .before .before .before in
+    let c11 = c7 .before .before .before .before in
+    c7 .value .kept .1 .1 .0 ∙ c11 .loop .inv .lent
 
 entries-same-length-2 : (t : ℕ) → entries-lts.Need-same-length-2 (entries-uses t) (entries-at t) entries.Post entries-Inv-loop entries-μ-loop
-entries-same-length-2 t c = c .before .before .before .before .before .before .value .kept .1 .1 .1 .0 ∙ c .before .before .before .before .before .before .before .before .before .before .loop .inv .worked
+entries-same-length-2 t c =
+    let c7 = c .before .before .before .before .before .before .before in
+    let c11 = c7 .before .before .before .before in
+    c7 .value .kept .1 .1 .1 .0 ∙ c11 .loop .inv .worked
 
 entries-returns : (t : ℕ) → entries-lts.Need-returns (entries-uses t) (entries-at t) entries.Post entries-Inv-loop entries-μ-loop
-entries-returns t c = let a = c .before .before .before .before .before .before .before .before .before .before .before .before .before .before .before .args in let x = c .before .before .before .before .before .before .before .before .before .before .loop in entries-not (now (a .table)) (now (a .m)) (now (a .work)) (now (a .rows)) (a .modes) (a .node) (a .count) (a .c) (a .n) (x .work) (x .rows) (x .k) (x .core) (x .i) (x .inv) (c .before .before .before .before .before .before .before .before .before .before .before .before .before .before .before .pre .1 .2) (c .before .before .before .before .before .before .before .before .before .loop-test .taken) (c .before .before .before .before .before .before .value .ensures) (c .enum-told .given .1)
+entries-returns t c =
+    let c1 = c .before in
+    let c7 = c1 .before .before .before .before .before .before in
+    let c10 = c7 .before .before .before in
+    let c11 = c10 .before in
+    let c16 = c11 .before .before .before .before .before in
+    let a = c16 .args in
+    let x = c11 .loop in
+    entries-not (now (a .table)) (now (a .m)) (now (a .work)) (now (a .rows)) (a .modes) (a .node) (a .count) (a .c) (a .n) (x .work) (x .rows) (x .k) (x .core) (x .i) (x .inv) (c16 .pre .1 .2) (c10 .loop-test .taken) (c7 .value .ensures) (c1 .enum-told .given .1) (c .again .ensures)
 
 entries-sub-k : (t : ℕ) → entries-lts.Need-sub-k (entries-uses t) (entries-at t) entries.Post entries-Inv-loop entries-μ-loop
 entries-sub-k t c = search needs
@@ -209,7 +279,15 @@ entries-loop-less : (t : ℕ) → entries-lts.Need-loop-less (entries-uses t) (e
 entries-loop-less t c = omega arith
 
 entries-loop-again : (t : ℕ) → entries-lts.Need-loop-again (entries-uses t) (entries-at t) entries.Post entries-Inv-loop entries-μ-loop
-entries-loop-again t c = let a = c .before .before .before .before .before .before .before .before .before .before .before .before .before .before .before .before .args in let x = c .before .before .before .before .before .before .before .before .before .before .before .loop in entries-again (now (a .table)) (now (a .m)) (now (a .work)) (now (a .rows)) (a .modes) (a .node) (a .count) (a .c) (a .n) (x .work) (x .rows) (x .k) (x .core) (x .i) (x .inv) (c .before .before .before .before .before .before .before .before .before .before .before .before .before .before .before .before .pre .1 .2) (c .before .before .before .before .before .before .before .before .before .before .before .before .before .before .before .before .pre .1 .3) (c .before .before .before .before .before .before .before .before .before .before .loop-test .taken) (c .before .before .before .before .before .before .before .value .kept .1 .1 .0) (c .before .before .before .before .before .before .before .value .kept .1 .1 .1 .0) (c .before .before .before .before .before .before .before .value .ensures) (c .before .r .given .1)
+entries-loop-again t c =
+    let c1 = c .before in
+    let c7 = c1 .before .before .before .before .before .before in
+    let c10 = c7 .before .before .before in
+    let c11 = c10 .before in
+    let c16 = c11 .before .before .before .before .before in
+    let a = c16 .args in
+    let x = c11 .loop in
+    entries-again (now (a .table)) (now (a .m)) (now (a .work)) (now (a .rows)) (a .modes) (a .node) (a .count) (a .c) (a .n) (x .work) (x .rows) (x .k) (x .core) (x .i) (x .inv) (c16 .pre .1 .2) (c16 .pre .1 .3) (c10 .loop-test .taken) (c7 .value .kept .1 .1 .0) (c7 .value .kept .1 .1 .1 .0) (c7 .value .ensures) (c1 .r .given .1)
 
 entries-same-length-3 : (t : ℕ) → entries-lts.Need-same-length-3 (entries-uses t) (entries-at t) entries.Post entries-Inv-loop entries-μ-loop
 entries-same-length-3 t c = c .before .loop .inv .lent
@@ -218,7 +296,12 @@ entries-same-length-4 : (t : ℕ) → entries-lts.Need-same-length-4 (entries-us
 entries-same-length-4 t c = c .before .loop .inv .worked
 
 entries-returns-2 : (t : ℕ) → entries-lts.Need-returns-2 (entries-uses t) (entries-at t) entries.Post entries-Inv-loop entries-μ-loop
-entries-returns-2 t c = let a = c .before .before .before .before .before .before .args in let x = c .before .loop in entries-end (now (a .table)) (now (a .m)) (now (a .work)) (now (a .rows)) (a .modes) (a .node) (a .count) (a .c) (a .n) (x .work) (x .rows) (x .k) (x .core) (x .i) (x .inv) (c .before .before .before .before .before .before .pre .1 .2) (c .loop-test .left)
+entries-returns-2 t c =
+    let c1 = c .before in
+    let c6 = c1 .before .before .before .before .before in
+    let a = c6 .args in
+    let x = c1 .loop in
+    entries-end (now (a .table)) (now (a .m)) (now (a .work)) (now (a .rows)) (a .modes) (a .node) (a .count) (a .c) (a .n) (x .work) (x .rows) (x .k) (x .core) (x .i) (x .inv) (c6 .pre .1 .2) (c .loop-test .left)
 
 abbrev fields-Inv-loop : fields-lts.InvT-loop
 fields-Inv-loop table m rows₀ work₀ modes node n left count k₀ at₀ core₀ i₀ rows work k at core i = FieldsAt table m work₀ rows₀ modes node count core₀ n work rows k at core i
@@ -227,16 +310,36 @@ abbrev fields-μ-loop : fields-lts.MeasureT-loop
 fields-μ-loop table m rows₀ work₀ modes node n left count k₀ at₀ core₀ i₀ rows work k at core i = k
 
 fields-loop-holds : (t : ℕ) → fields-lts.Need-loop-holds (fields-uses t) (fields-at t) fields.Post fields-Inv-loop fields-μ-loop
-fields-loop-holds t c = let a = c .before .before .before .before .args in fields-begin (now (a .table)) (now (a .m)) (now (a .work)) (now (a .rows)) (a .modes) (a .node) (a .count) (a .c) (a .n) (c .before .before .before .before .pre .1 .0) (c .before .before .before .before .pre .1 .1)
+fields-loop-holds t c =
+    let c4 = c .before .before .before .before in
+    let a = c4 .args in
+    fields-begin (now (a .table)) (now (a .m)) (now (a .work)) (now (a .rows)) (a .modes) (a .node) (a .count) (a .c) (a .n) (c4 .pre .1 .0) (c4 .pre .1 .1)
 
 fields-is-omittable-requires : (t : ℕ) → fields-lts.Need-is-omittable-requires (fields-uses t) (fields-at t) fields.Post fields-Inv-loop fields-μ-loop
-fields-is-omittable-requires t c κs = let a = c .before .before .before .before .before .before .args in let x = c .before .loop in node-inside _ _ _ _ (fields-fits (now (a .table)) (now (a .m)) (now (a .work)) (now (a .rows)) (a .modes) (a .node) (a .count) (a .c) (a .n) (x .work) (x .rows) (x .k) (x .at) (x .core) (x .i) (x .inv) (c .before .before .before .before .before .before .pre .1 .2) (c .before .before .before .before .before .before .pre .1 .3) (c .loop-test .taken)) (c .before .before .before .before .before .before .pre .1 .2) .1
+fields-is-omittable-requires t c κs =
+    let c1 = c .before in
+    let c6 = c1 .before .before .before .before .before in
+    let a = c6 .args in
+    let x = c1 .loop in
+    node-inside _ _ _ _ (fields-fits (now (a .table)) (now (a .m)) (now (a .work)) (now (a .rows)) (a .modes) (a .node) (a .count) (a .c) (a .n) (x .work) (x .rows) (x .k) (x .at) (x .core) (x .i) (x .inv) (c6 .pre .1 .2) (c6 .pre .1 .3) (c .loop-test .taken)) (c6 .pre .1 .2) .1
 
 fields-end-at-requires : (t : ℕ) → fields-lts.Need-end-at-requires (fields-uses t) (fields-at t) fields.Post fields-Inv-loop fields-μ-loop
-fields-end-at-requires t c κs = let a = c .before .before .before .before .before .before .before .before .args in let x = c .before .before .before .loop in omega (arith, node-inside _ _ _ _ (fields-fits (now (a .table)) (now (a .m)) (now (a .work)) (now (a .rows)) (a .modes) (a .node) (a .count) (a .c) (a .n) (x .work) (x .rows) (x .k) (x .at) (x .core) (x .i) (x .inv) (c .before .before .before .before .before .before .before .before .pre .1 .2) (c .before .before .before .before .before .before .before .before .pre .1 .3) (c .before .before .loop-test .taken)) (c .before .before .before .before .before .before .before .before .pre .1 .2) .0, x .inv .ready .good .whole)
+fields-end-at-requires t c κs =
+    let c2 = c .before .before in
+    let c3 = c2 .before in
+    let c8 = c3 .before .before .before .before .before in
+    let a = c8 .args in
+    let x = c3 .loop in
+    omega (arith, node-inside _ _ _ _ (fields-fits (now (a .table)) (now (a .m)) (now (a .work)) (now (a .rows)) (a .modes) (a .node) (a .count) (a .c) (a .n) (x .work) (x .rows) (x .k) (x .at) (x .core) (x .i) (x .inv) (c8 .pre .1 .2) (c8 .pre .1 .3) (c2 .loop-test .taken)) (c8 .pre .1 .2) .0, x .inv .ready .good .whole)
 
 fields-value-requires : (t : ℕ) → fields-lts.Need-value-requires (fields-uses t) (fields-at t) fields.Post fields-Inv-loop fields-μ-loop
-fields-value-requires t c κs = let a = c .before .before .before .before .before .before .before .before .before .before .before .args in let x = c .before .before .before .before .before .before .loop in (omega (arith, c .before .before .before .before .before .before .before .before .before .before .before .pre .0), (x .inv .ready, x .inv .inside, c .before .before .before .before .before .before .before .before .before .before .before .pre .1 .2, fields-fits (now (a .table)) (now (a .m)) (now (a .work)) (now (a .rows)) (a .modes) (a .node) (a .count) (a .c) (a .n) (x .work) (x .rows) (x .k) (x .at) (x .core) (x .i) (x .inv) (c .before .before .before .before .before .before .before .before .before .before .before .pre .1 .2) (c .before .before .before .before .before .before .before .before .before .before .before .pre .1 .3) (c .before .before .before .before .before .loop-test .taken)))
+fields-value-requires t c κs =
+    let c5 = c .before .before .before .before .before in
+    let c6 = c5 .before in
+    let c11 = c6 .before .before .before .before .before in
+    let a = c11 .args in
+    let x = c6 .loop in
+    (omega (arith, c11 .pre .0), (x .inv .ready, x .inv .inside, c11 .pre .1 .2, fields-fits (now (a .table)) (now (a .m)) (now (a .work)) (now (a .rows)) (a .modes) (a .node) (a .count) (a .c) (a .n) (x .work) (x .rows) (x .k) (x .at) (x .core) (x .i) (x .inv) (c11 .pre .1 .2) (c11 .pre .1 .3) (c5 .loop-test .taken)))
 
 fields-enum-known-r : (t : ℕ) → fields-lts.Need-enum-known-r (fields-uses t) (fields-at t) fields.Post fields-Inv-loop fields-μ-loop
 fields-enum-known-r t c = search needs
@@ -244,14 +347,32 @@ fields-enum-known-r t c = search needs
 fields-enum-told : (t : ℕ) → fields-lts.Need-enum-told (fields-uses t) (fields-at t) fields.Post fields-Inv-loop fields-μ-loop
 fields-enum-told t c = search needs
 
+fields-again-requires : (t : ℕ) → fields-lts.Need-again-requires (fields-uses t) (fields-at t) fields.Post fields-Inv-loop fields-μ-loop
+fields-again-requires t c κs = search needs
+
 fields-same-length : (t : ℕ) → fields-lts.Need-same-length (fields-uses t) (fields-at t) fields.Post fields-Inv-loop fields-μ-loop
-fields-same-length t c = c .before .before .before .before .before .before .value .kept .1 .1 .0 ∙ c .before .before .before .before .before .before .before .before .before .before .before .before .before .loop .inv .lent
+fields-same-length t c =
+    let c7 = c .before .before .before .before .before .before .before in
+    let c14 = c7 .before .before .before .before .before .before .before in
+    c7 .value .kept .1 .1 .0 ∙ c14 .loop .inv .lent
 
 fields-same-length-2 : (t : ℕ) → fields-lts.Need-same-length-2 (fields-uses t) (fields-at t) fields.Post fields-Inv-loop fields-μ-loop
-fields-same-length-2 t c = c .before .before .before .before .before .before .value .kept .1 .1 .1 .0 ∙ c .before .before .before .before .before .before .before .before .before .before .before .before .before .loop .inv .worked
+fields-same-length-2 t c =
+    let c7 = c .before .before .before .before .before .before .before in
+    let c14 = c7 .before .before .before .before .before .before .before in
+    c7 .value .kept .1 .1 .1 .0 ∙ c14 .loop .inv .worked
 
 fields-returns : (t : ℕ) → fields-lts.Need-returns (fields-uses t) (fields-at t) fields.Post fields-Inv-loop fields-μ-loop
-fields-returns t c = let a = c .before .before .before .before .before .before .before .before .before .before .before .before .before .before .before .before .before .before .args in let x = c .before .before .before .before .before .before .before .before .before .before .before .before .before .loop in fields-not (now (a .table)) (now (a .m)) (now (a .work)) (now (a .rows)) (a .modes) (a .node) (a .count) (a .c) (a .n) (x .work) (x .rows) (x .k) (x .at) (x .core) (x .i) (x .inv) (c .before .before .before .before .before .before .before .before .before .before .before .before .before .before .before .before .before .before .pre .1 .2) (c .before .before .before .before .before .before .before .before .before .before .before .before .loop-test .taken) (c .before .before .before .before .before .before .before .before .before .before .before .is-omittable .ensures) (c .before .before .before .before .before .before .value .ensures) (c .enum-told .given .1)
+fields-returns t c =
+    let c1 = c .before in
+    let c7 = c1 .before .before .before .before .before .before in
+    let c12 = c7 .before .before .before .before .before in
+    let c13 = c12 .before in
+    let c14 = c13 .before in
+    let c19 = c14 .before .before .before .before .before in
+    let a = c19 .args in
+    let x = c14 .loop in
+    fields-not (now (a .table)) (now (a .m)) (now (a .work)) (now (a .rows)) (a .modes) (a .node) (a .count) (a .c) (a .n) (x .work) (x .rows) (x .k) (x .at) (x .core) (x .i) (x .inv) (c19 .pre .1 .2) (c13 .loop-test .taken) (c12 .is-omittable .ensures) (c7 .value .ensures) (c1 .enum-told .given .1) (c .again .ensures)
 
 fields-sub-k : (t : ℕ) → fields-lts.Need-sub-k (fields-uses t) (fields-at t) fields.Post fields-Inv-loop fields-μ-loop
 fields-sub-k t c = search needs
@@ -260,7 +381,17 @@ fields-loop-less : (t : ℕ) → fields-lts.Need-loop-less (fields-uses t) (fiel
 fields-loop-less t c = omega arith
 
 fields-loop-again : (t : ℕ) → fields-lts.Need-loop-again (fields-uses t) (fields-at t) fields.Post fields-Inv-loop fields-μ-loop
-fields-loop-again t c = let a = c .before .before .before .before .before .before .before .before .before .before .before .before .before .before .before .before .before .before .before .args in let x = c .before .before .before .before .before .before .before .before .before .before .before .before .before .before .loop in fields-again (now (a .table)) (now (a .m)) (now (a .work)) (now (a .rows)) (a .modes) (a .node) (a .count) (a .c) (a .n) (x .work) (x .rows) (x .k) (x .at) (x .core) (x .i) (x .inv) (c .before .before .before .before .before .before .before .before .before .before .before .before .before .before .before .before .before .before .before .pre .1 .2) (c .before .before .before .before .before .before .before .before .before .before .before .before .before .before .before .before .before .before .before .pre .1 .3) (c .before .before .before .before .before .before .before .before .before .before .before .before .before .loop-test .taken) (c .before .before .before .before .before .before .before .before .before .before .before .before .is-omittable .ensures) (c .before .before .before .before .before .before .before .before .before .before .end-at .ensures .0) (c .before .before .before .before .before .before .before .value .kept .1 .1 .0) (c .before .before .before .before .before .before .before .value .kept .1 .1 .1 .0) (c .before .before .before .before .before .before .before .value .ensures) (c .before .r .given .1)
+fields-loop-again t c =
+    let c1 = c .before in
+    let c7 = c1 .before .before .before .before .before .before in
+    let c10 = c7 .before .before .before in
+    let c12 = c10 .before .before in
+    let c13 = c12 .before in
+    let c14 = c13 .before in
+    let c19 = c14 .before .before .before .before .before in
+    let a = c19 .args in
+    let x = c14 .loop in
+    fields-again (now (a .table)) (now (a .m)) (now (a .work)) (now (a .rows)) (a .modes) (a .node) (a .count) (a .c) (a .n) (x .work) (x .rows) (x .k) (x .at) (x .core) (x .i) (x .inv) (c19 .pre .1 .2) (c19 .pre .1 .3) (c13 .loop-test .taken) (c12 .is-omittable .ensures) (c10 .end-at .ensures .0) (c7 .value .kept .1 .1 .0) (c7 .value .kept .1 .1 .1 .0) (c7 .value .ensures) (c1 .r .given .1)
 
 fields-same-length-3 : (t : ℕ) → fields-lts.Need-same-length-3 (fields-uses t) (fields-at t) fields.Post fields-Inv-loop fields-μ-loop
 fields-same-length-3 t c = c .before .loop .inv .lent
@@ -269,16 +400,27 @@ fields-same-length-4 : (t : ℕ) → fields-lts.Need-same-length-4 (fields-uses 
 fields-same-length-4 t c = c .before .loop .inv .worked
 
 fields-returns-2 : (t : ℕ) → fields-lts.Need-returns-2 (fields-uses t) (fields-at t) fields.Post fields-Inv-loop fields-μ-loop
-fields-returns-2 t c = let a = c .before .before .before .before .before .before .args in let x = c .before .loop in fields-end (now (a .table)) (now (a .m)) (now (a .work)) (now (a .rows)) (a .modes) (a .node) (a .count) (a .c) (a .n) (x .work) (x .rows) (x .k) (x .at) (x .core) (x .i) (x .inv) (c .before .before .before .before .before .before .pre .1 .2) (c .loop-test .left)
+fields-returns-2 t c =
+    let c1 = c .before in
+    let c6 = c1 .before .before .before .before .before in
+    let a = c6 .args in
+    let x = c1 .loop in
+    fields-end (now (a .table)) (now (a .m)) (now (a .work)) (now (a .rows)) (a .modes) (a .node) (a .count) (a .c) (a .n) (x .work) (x .rows) (x .k) (x .at) (x .core) (x .i) (x .inv) (c6 .pre .1 .2) (c .loop-test .left)
 
 record-is-bare-requires : (t : ℕ) → record-lts.Need-is-bare-requires (record-uses t) (record-at t) record.Post
 record-is-bare-requires t c κs = search needs
 
 record-returns : (t : ℕ) → record-lts.Need-returns (record-uses t) (record-at t) record.Post
-record-returns t c = let a = c .before .before .before .before .before .before .args in record-24 (now (a .table)) (now (a .m)) (now (a .work)) (now (a .rows)) (a .modes) (a .node) (a .n) (a .front) (a .c) (c .before .before .before .before .before .before .pre .1 .4) _ (c .before .is-bare .ensures) (c .if1 .taken)
+record-returns t c =
+    let c1 = c .before in
+    let c6 = c1 .before .before .before .before .before in
+    let a = c6 .args in
+    record-24 (now (a .table)) (now (a .m)) (now (a .work)) (now (a .rows)) (a .modes) (a .node) (a .n) (a .front) (a .c) (c6 .pre .1 .4) _ (c1 .is-bare .ensures) (c .if1 .taken)
 
 record-argument-at-requires : (t : ℕ) → record-lts.Need-argument-at-requires (record-uses t) (record-at t) record.Post
-record-argument-at-requires t c κs = wire-inside _ _ _ _ (c .before .before .before .before .before .before .pre .1 .3) (c .before .before .before .before .before .before .pre .1 .2) .2
+record-argument-at-requires t c κs =
+    let c6 = c .before .before .before .before .before .before in
+    wire-inside _ _ _ _ (c6 .pre .1 .3) (c6 .pre .1 .2) .2
 
 record-push-requires : (t : ℕ) → record-lts.Need-push-requires (record-uses t) (record-at t) record.Post
 record-push-requires t c κs = search needs
@@ -293,16 +435,30 @@ record-same-length : (t : ℕ) → record-lts.Need-same-length (record-uses t) (
 record-same-length t c = search needs
 
 record-returns-2 : (t : ℕ) → record-lts.Need-returns-2 (record-uses t) (record-at t) record.Post
-record-returns-2 t c = let a = c .before .before .before .before .before .before .before .before .before .before .before .before .before .args in record-31 (now (a .table)) (now (a .m)) (now (a .work)) (now (a .rows)) (a .modes) (a .node) (a .n) (a .front) (a .c) (c .before .before .before .before .before .before .before .before .before .before .before .before .before .pre .1 .4) _ (c .before .before .before .before .before .before .before .before .is-bare .ensures) (c .before .before .before .before .before .before .before .if1 .left) _ (c .before .before .before .before .push .ensures .0) (c .enum-told .given .1)
+record-returns-2 t c =
+    let c4 = c .before .before .before .before in
+    let c7 = c4 .before .before .before in
+    let c8 = c7 .before in
+    let c13 = c8 .before .before .before .before .before in
+    let a = c13 .args in
+    record-31 (now (a .table)) (now (a .m)) (now (a .work)) (now (a .rows)) (a .modes) (a .node) (a .n) (a .front) (a .c) (c13 .pre .1 .4) _ (c8 .is-bare .ensures) (c7 .if1 .left) _ (c4 .push .ensures .0) (c .enum-told .given .1)
 
 record-add-fields : (t : ℕ) → record-lts.Need-add-fields (record-uses t) (record-at t) record.Post
-record-add-fields t c = omega (arith, wire-inside _ _ _ _ (c .before .before .before .before .before .before .before .before .before .before .before .before .before .before .before .before .pre .1 .3) (c .before .before .before .before .before .before .before .before .before .before .before .before .before .before .before .before .pre .1 .2) .1)
+record-add-fields t c =
+    let c16 = c .before .before .before .before .before .before .before .before .before .before .before .before .before .before .before .before in
+    omega (arith, wire-inside _ _ _ _ (c16 .pre .1 .3) (c16 .pre .1 .2) .1)
 
 record-sub-fields : (t : ℕ) → record-lts.Need-sub-fields (record-uses t) (record-at t) record.Post
-record-sub-fields t c = omega (arith, wire-inside _ _ _ _ (c .before .before .before .before .before .before .before .before .before .before .before .before .before .before .before .before .pre .1 .3) (c .before .before .before .before .before .before .before .before .before .before .before .before .before .before .before .before .pre .1 .2) .0)
+record-sub-fields t c =
+    let c16 = c .before .before .before .before .before .before .before .before .before .before .before .before .before .before .before .before in
+    omega (arith, wire-inside _ _ _ _ (c16 .pre .1 .3) (c16 .pre .1 .2) .0)
 
 record-fields-requires : (t : ℕ) → record-lts.Need-fields-requires (record-uses t) (record-at t) record.Post
-record-fields-requires t c κs = let a = c .before .before .before .before .before .before .before .before .before .before .before .before .before .before .before .before .args in (omega (arith, c .before .before .before .before .before .before .before .before .before .before .before .before .before .before .before .before .pre .0, wire-inside _ _ _ _ (c .before .before .before .before .before .before .before .before .before .before .before .before .before .before .before .before .pre .1 .3) (c .before .before .before .before .before .before .before .before .before .before .before .before .before .before .before .before .pre .1 .2) .0), (c .before .before .before .before .before .before .before .before .before .before .before .before .before .before .before .before .pre .1 .0, c .before .before .before .before .before .before .before .before .before .before .before .before .before .before .before .before .pre .1 .1, c .before .before .before .before .before .before .before .before .before .before .before .before .before .before .before .before .pre .1 .2, record-fits _ _ _ _ _ (c .before .before .before .before .before .before .before .before .before .before .before .before .before .before .before .before .pre .1 .4) (c .before .before .before .before .before .before .before .before .before .argument-at .ensures .0) (c .before .before .before .before .before .before .before .before .before .before .before .before .before .before .before .before .pre .1 .3)))
+record-fields-requires t c κs =
+    let c9 = c .before .before .before .before .before .before .before .before .before in
+    let c16 = c9 .before .before .before .before .before .before .before in
+    let a = c16 .args in
+    (omega (arith, c16 .pre .0, wire-inside _ _ _ _ (c16 .pre .1 .3) (c16 .pre .1 .2) .0), (c16 .pre .1 .0, c16 .pre .1 .1, c16 .pre .1 .2, record-fits _ _ _ _ _ (c16 .pre .1 .4) (c9 .argument-at .ensures .0) (c16 .pre .1 .3)))
 
 record-same-length-2 : (t : ℕ) → record-lts.Need-same-length-2 (record-uses t) (record-at t) record.Post
 record-same-length-2 t c = search needs
@@ -311,13 +467,26 @@ record-same-length-3 : (t : ℕ) → record-lts.Need-same-length-3 (record-uses 
 record-same-length-3 t c = search needs
 
 record-returns-3 : (t : ℕ) → record-lts.Need-returns-3 (record-uses t) (record-at t) record.Post
-record-returns-3 t c = let a = c .before .before .before .before .before .before .before .before .before .before .before .before .before .before .before .before .before .before .before .before .before .args in record-then (now (a .table)) (now (a .m)) (now (a .work)) (now (a .rows)) (a .modes) (a .node) (a .n) (a .front) (a .c) (c .before .before .before .before .before .before .before .before .before .before .before .before .before .before .before .before .before .before .before .before .before .pre .1 .4) _ (c .before .before .before .before .before .before .before .before .before .before .before .before .before .before .before .before .is-bare .ensures) (c .before .before .before .before .before .before .before .before .before .before .before .before .before .before .before .if1 .left) _ (c .before .before .before .before .before .before .before .before .before .before .before .before .push .ensures .0) (c .before .before .before .before .before .before .before .before .before .before .before .before .before .before .argument-at .ensures .0) (c .before .before .before .before .before .before .before .before .before .before .before .before .push .ensures .1) (c .before .before .before .before .before .before .before .before .next .given .1) (c .before .before .before .before .before .before .before .before .before .before .before .before .push .kept .0) (c .before .before .before .before .fields .ensures)
+record-returns-3 t c =
+    let c4 = c .before .before .before .before in
+    let c8 = c4 .before .before .before .before in
+    let c12 = c8 .before .before .before .before in
+    let c14 = c12 .before .before in
+    let c15 = c14 .before in
+    let c16 = c15 .before in
+    let c21 = c16 .before .before .before .before .before in
+    let a = c21 .args in
+    record-then (now (a .table)) (now (a .m)) (now (a .work)) (now (a .rows)) (a .modes) (a .node) (a .n) (a .front) (a .c) (c21 .pre .1 .4) _ (c16 .is-bare .ensures) (c15 .if1 .left) _ (c12 .push .ensures .0) (c14 .argument-at .ensures .0) (c12 .push .ensures .1) (c8 .next .given .1) (c12 .push .kept .0) (c4 .fields .ensures)
 
 value-kind-at-requires : (t : ℕ) → value-lts.Need-kind-at-requires (value-uses t) (value-at t) value.Post
-value-kind-at-requires t c κs = node-inside _ _ _ _ (c .before .before .before .before .pre .1 .3) (c .before .before .before .before .pre .1 .2) .1
+value-kind-at-requires t c κs =
+    let c4 = c .before .before .before .before in
+    node-inside _ _ _ _ (c4 .pre .1 .3) (c4 .pre .1 .2) .1
 
 value-open-requires : (t : ℕ) → value-lts.Need-open-requires (value-uses t) (value-at t) value.Post
-value-open-requires t c κs = c .before .before .before .before .before .pre .1 .1
+value-open-requires t c κs =
+    let c5 = c .before .before .before .before .before in
+    c5 .pre .1 .1
 
 value-enum-known-first : (t : ℕ) → value-lts.Need-enum-known-first (value-uses t) (value-at t) value.Post
 value-enum-known-first t c = search needs
@@ -332,19 +501,41 @@ value-enum-known-first-3 : (t : ℕ) → value-lts.Need-enum-known-first-3 (valu
 value-enum-known-first-3 t c = search needs
 
 value-below-requires : (t : ℕ) → value-lts.Need-below-requires (value-uses t) (value-at t) value.Post
-value-below-requires t c κs = node-inside _ _ _ _ (c .before .before .before .before .before .before .before .before .before .pre .1 .3) (c .before .before .before .before .before .before .before .before .before .pre .1 .2) .0
+value-below-requires t c κs =
+    let c9 = c .before .before .before .before .before .before .before .before .before in
+    node-inside _ _ _ _ (c9 .pre .1 .3) (c9 .pre .1 .2) .0
 
 value-wire-requires : (t : ℕ) → value-lts.Need-wire-requires (value-uses t) (value-at t) value.Post
-value-wire-requires t c κs = let a = c .before .before .before .before .before .before .before .before .before .before .before .before .args in (omega (arith, c .before .before .before .before .before .before .before .before .before .before .before .before .pre .0), (c .before .before .before .before .before .before .before .before .before .before .before .before .pre .1 .0, opened-inside (now (a .table)) (now (a .m)) (now (a .work)) (now (a .rows)) (a .modes) (a .node) (a .n) (a .omittable) _ (a .c) _ (ap (λ k. eqb k 10) (c .before .before .before .before .before .before .before .kind-at .ensures)) (c .before .before .before .before .before .before .before .before .before .before .before .before .pre .1 .0) (c .before .before .before .before .before .before .«open» .ensures) (c .before .before .before .before .first3 .given .1), c .before .before .before .before .before .before .before .before .before .before .before .before .pre .1 .2, value-fits _ _ _ (a .node) _ _ (ap (λ k. eqb k 10) (c .before .before .before .before .before .before .before .kind-at .ensures)) (c .before .before .below .ensures) (c .before .before .before .before .before .before .before .before .before .before .before .before .pre .1 .3)))
+value-wire-requires t c κs =
+    let c2 = c .before .before in
+    let c4 = c2 .before .before in
+    let c6 = c4 .before .before in
+    let c7 = c6 .before in
+    let c12 = c7 .before .before .before .before .before in
+    let a = c12 .args in
+    (omega (arith, c12 .pre .0), (c12 .pre .1 .0, opened-inside (now (a .table)) (now (a .m)) (now (a .work)) (now (a .rows)) (a .modes) (a .node) (a .n) (a .omittable) _ (a .c) _ (ap (λ k. eqb k 10) (c7 .kind-at .ensures)) (c12 .pre .1 .0) (c6 .«open» .ensures) (c4 .first3 .given .1), c12 .pre .1 .2, value-fits _ _ _ (a .node) _ _ (ap (λ k. eqb k 10) (c7 .kind-at .ensures)) (c2 .below .ensures) (c12 .pre .1 .3)))
 
 value-returns : (t : ℕ) → value-lts.Need-returns (value-uses t) (value-at t) value.Post
-value-returns t c = let a = c .before .before .before .before .before .before .before .before .before .args in value-refused (now (a .table)) (now (a .m)) (now (a .work)) (now (a .rows)) (a .modes) (a .node) (a .n) (a .omittable) _ (a .c) _ (ap (λ k. eqb k 10) (c .before .before .before .before .kind-at .ensures)) (c .before .before .before .before .before .before .before .before .before .pre .1 .0) (c .before .before .before .«open» .ensures) (c .before .first .given .1)
+value-returns t c =
+    let c1 = c .before in
+    let c3 = c1 .before .before in
+    let c4 = c3 .before in
+    let c9 = c4 .before .before .before .before .before in
+    let a = c9 .args in
+    value-refused (now (a .table)) (now (a .m)) (now (a .work)) (now (a .rows)) (a .modes) (a .node) (a .n) (a .omittable) _ (a .c) _ (ap (λ k. eqb k 10) (c4 .kind-at .ensures)) (c9 .pre .1 .0) (c3 .«open» .ensures) (c1 .first .given .1)
 
 value-same-length : (t : ℕ) → value-lts.Need-same-length (value-uses t) (value-at t) value.Post
 value-same-length t c = search needs
 
 value-returns-2 : (t : ℕ) → value-lts.Need-returns-2 (value-uses t) (value-at t) value.Post
-value-returns-2 t c = let a = c .before .before .before .before .before .before .before .before .before .before .before .before .before .args in value-gone (now (a .table)) (now (a .m)) (now (a .work)) (now (a .rows)) (a .modes) (a .node) (a .n) (a .omittable) _ (a .c) _ (ap (λ k. eqb k 10) (c .before .before .before .before .before .before .before .before .kind-at .ensures)) (c .before .before .before .before .before .before .before .before .before .before .before .before .before .pre .1 .0) (c .before .before .before .before .before .before .before .«open» .ensures) (c .before .before .before .before .before .first2 .given .1) (c .before .before .row .ensures)
+value-returns-2 t c =
+    let c2 = c .before .before in
+    let c5 = c2 .before .before .before in
+    let c7 = c5 .before .before in
+    let c8 = c7 .before in
+    let c13 = c8 .before .before .before .before .before in
+    let a = c13 .args in
+    value-gone (now (a .table)) (now (a .m)) (now (a .work)) (now (a .rows)) (a .modes) (a .node) (a .n) (a .omittable) _ (a .c) _ (ap (λ k. eqb k 10) (c8 .kind-at .ensures)) (c13 .pre .1 .0) (c7 .«open» .ensures) (c5 .first2 .given .1) (c2 .row .ensures)
 
 value-same-length-2 : (t : ℕ) → value-lts.Need-same-length-2 (value-uses t) (value-at t) value.Post
 value-same-length-2 t c = search needs
@@ -353,22 +544,44 @@ value-same-length-3 : (t : ℕ) → value-lts.Need-same-length-3 (value-uses t) 
 value-same-length-3 t c = search needs
 
 value-returns-3 : (t : ℕ) → value-lts.Need-returns-3 (value-uses t) (value-at t) value.Post
-value-returns-3 t c = let a = c .before .before .before .before .before .before .before .before .before .before .before .before .before .before .before .before .before .args in value-here (now (a .table)) (now (a .m)) (now (a .work)) (now (a .rows)) (a .modes) (a .node) (a .n) (a .omittable) _ (a .c) _ (ap (λ k. eqb k 10) (c .before .before .before .before .before .before .before .before .before .before .before .before .kind-at .ensures)) (c .before .before .before .before .before .before .before .before .before .before .before .before .before .before .before .before .before .pre .1 .0) (c .before .before .before .before .before .before .before .before .before .before .before .«open» .ensures) (c .before .before .before .before .before .before .before .before .before .first3 .given .1) (c .before .before .before .before .before .before .before .below .ensures) (c .before .before .before .before .wire .ensures)
+value-returns-3 t c =
+    let c4 = c .before .before .before .before in
+    let c7 = c4 .before .before .before in
+    let c9 = c7 .before .before in
+    let c11 = c9 .before .before in
+    let c12 = c11 .before in
+    let c17 = c12 .before .before .before .before .before in
+    let a = c17 .args in
+    value-here (now (a .table)) (now (a .m)) (now (a .work)) (now (a .rows)) (a .modes) (a .node) (a .n) (a .omittable) _ (a .c) _ (ap (λ k. eqb k 10) (c12 .kind-at .ensures)) (c17 .pre .1 .0) (c11 .«open» .ensures) (c9 .first3 .given .1) (c7 .below .ensures) (c4 .wire .ensures)
 
 wire-kind-at-requires : (t : ℕ) → wire-lts.Need-kind-at-requires (wire-uses t) (wire-at t) wire.Post
-wire-kind-at-requires t c κs = wire-inside _ _ _ _ (c .before .before .before .before .pre .1 .3) (c .before .before .before .before .pre .1 .2) .2
+wire-kind-at-requires t c κs =
+    let c4 = c .before .before .before .before in
+    wire-inside _ _ _ _ (c4 .pre .1 .3) (c4 .pre .1 .2) .2
 
 wire-boolean-requires : (t : ℕ) → wire-lts.Need-boolean-requires (wire-uses t) (wire-at t) wire.Post
-wire-boolean-requires t c κs = c .before .before .before .before .before .before .before .pre .1 .1
+wire-boolean-requires t c κs =
+    let c7 = c .before .before .before .before .before .before .before in
+    c7 .pre .1 .1
 
 wire-same-length : (t : ℕ) → wire-lts.Need-same-length (wire-uses t) (wire-at t) wire.Post
 wire-same-length t c = search needs
 
 wire-returns : (t : ℕ) → wire-lts.Need-returns (wire-uses t) (wire-at t) wire.Post
-wire-returns t c = let a = c .before .before .before .before .before .before .before .before .before .before .args in boolean-reads (now (a .table)) (now (a .m)) (now (a .work)) (now (a .rows)) _ (a .modes) (a .node) (a .n) (a .front) (a .c) _ (sym (c .before .before .before .before .before .kind-at .ensures) ∙ c .before .before .before .before .if1 .taken) (c .before .before .before .before .before .before .before .before .before .before .pre .1 .0) (c .before .before .boolean .ensures)
+wire-returns t c =
+    let c2 = c .before .before in
+    let c4 = c2 .before .before in
+    let c5 = c4 .before in
+    let c10 = c5 .before .before .before .before .before in
+    let a = c10 .args in
+    boolean-does (now (a .table)) (now (a .m)) (now (a .work)) (now (a .rows)) _ (a .modes) (a .node) (a .n) (a .front) (a .c) _ (sym (c5 .kind-at .ensures) ∙ c4 .if1 .taken) (c10 .pre .1 .0) (c2 .boolean .ensures)
 
 wire-record-requires : (t : ℕ) → wire-lts.Need-record-requires (wire-uses t) (wire-at t) wire.Post
-wire-record-requires t c κs = (omega (arith, c .before .before .before .before .before .before .before .before .before .pre .0), (c .before .before .before .before .before .before .before .before .before .pre .1 .0, c .before .before .before .before .before .before .before .before .before .pre .1 .1, c .before .before .before .before .before .before .before .before .before .pre .1 .2, c .before .before .before .before .before .before .before .before .before .pre .1 .3, (sym (c .before .before .before .before .kind-at .ensures) ∙ c .before .before .if2 .taken)))
+wire-record-requires t c κs =
+    let c2 = c .before .before in
+    let c4 = c2 .before .before in
+    let c9 = c4 .before .before .before .before .before in
+    (omega (arith, c9 .pre .0), (c9 .pre .1 .0, c9 .pre .1 .1, c9 .pre .1 .2, c9 .pre .1 .3, (sym (c4 .kind-at .ensures) ∙ c2 .if2 .taken)))
 
 wire-same-length-2 : (t : ℕ) → wire-lts.Need-same-length-2 (wire-uses t) (wire-at t) wire.Post
 wire-same-length-2 t c = search needs
@@ -377,10 +590,16 @@ wire-same-length-3 : (t : ℕ) → wire-lts.Need-same-length-3 (wire-uses t) (wi
 wire-same-length-3 t c = search needs
 
 wire-returns-2 : (t : ℕ) → wire-lts.Need-returns-2 (wire-uses t) (wire-at t) wire.Post
-wire-returns-2 t c = c .before .before .before .before .«record» .ensures
+wire-returns-2 t c =
+    let c4 = c .before .before .before .before in
+    c4 .«record» .ensures
 
 wire-array-requires : (t : ℕ) → wire-lts.Need-array-requires (wire-uses t) (wire-at t) wire.Post
-wire-array-requires t c κs = (omega (arith, c .before .before .before .before .before .before .before .before .before .before .pre .0), (c .before .before .before .before .before .before .before .before .before .before .pre .1 .0, c .before .before .before .before .before .before .before .before .before .before .pre .1 .1, c .before .before .before .before .before .before .before .before .before .before .pre .1 .2, c .before .before .before .before .before .before .before .before .before .before .pre .1 .3, (sym (c .before .before .before .before .before .kind-at .ensures) ∙ c .before .before .if3 .taken)))
+wire-array-requires t c κs =
+    let c2 = c .before .before in
+    let c5 = c2 .before .before .before in
+    let c10 = c5 .before .before .before .before .before in
+    (omega (arith, c10 .pre .0), (c10 .pre .1 .0, c10 .pre .1 .1, c10 .pre .1 .2, c10 .pre .1 .3, (sym (c5 .kind-at .ensures) ∙ c2 .if3 .taken)))
 
 wire-same-length-4 : (t : ℕ) → wire-lts.Need-same-length-4 (wire-uses t) (wire-at t) wire.Post
 wire-same-length-4 t c = search needs
@@ -389,10 +608,19 @@ wire-same-length-5 : (t : ℕ) → wire-lts.Need-same-length-5 (wire-uses t) (wi
 wire-same-length-5 t c = search needs
 
 wire-returns-3 : (t : ℕ) → wire-lts.Need-returns-3 (wire-uses t) (wire-at t) wire.Post
-wire-returns-3 t c = c .before .before .before .before .array .ensures
+wire-returns-3 t c =
+    let c4 = c .before .before .before .before in
+    c4 .array .ensures
 
 wire-block-requires : (t : ℕ) → wire-lts.Need-block-requires (wire-uses t) (wire-at t) wire.Post
-wire-block-requires t c κs = let b = block-inside _ _ _ _ (c .before .before .before .before .before .before .before .before .before .before .pre .1 .3) (c .before .before .before .before .before .before .before .before .before .before .pre .1 .2) (λ e. c .before .before .before .before .if1 .left (c .before .before .before .before .before .kind-at .ensures ∙ e)) (λ e. c .before .before .before .if2 .left (c .before .before .before .before .before .kind-at .ensures ∙ e)) (λ e. c .before .before .if3 .left (c .before .before .before .before .before .kind-at .ensures ∙ e)) in (c .before .before .before .before .before .before .before .before .before .before .pre .1 .0, c .before .before .before .before .before .before .before .before .before .before .pre .1 .1, b .0, b .1, b .2)
+wire-block-requires t c κs =
+    let c2 = c .before .before in
+    let c3 = c2 .before in
+    let c4 = c3 .before in
+    let c5 = c4 .before in
+    let c10 = c5 .before .before .before .before .before in
+    let b = block-inside _ _ _ _ (c10 .pre .1 .3) (c10 .pre .1 .2) (λ e. c4 .if1 .left (c5 .kind-at .ensures ∙ e)) (λ e. c3 .if2 .left (c5 .kind-at .ensures ∙ e)) (λ e. c2 .if3 .left (c5 .kind-at .ensures ∙ e)) in
+    (c10 .pre .1 .0, c10 .pre .1 .1, b .0, b .1, b .2)
 
 wire-same-length-6 : (t : ℕ) → wire-lts.Need-same-length-6 (wire-uses t) (wire-at t) wire.Post
 wire-same-length-6 t c = search needs
@@ -401,7 +629,9 @@ wire-same-length-7 : (t : ℕ) → wire-lts.Need-same-length-7 (wire-uses t) (wi
 wire-same-length-7 t c = search needs
 
 wire-returns-4 : (t : ℕ) → wire-lts.Need-returns-4 (wire-uses t) (wire-at t) wire.Post
-wire-returns-4 t c = c .before .before .before .before .block .ensures
+wire-returns-4 t c =
+    let c4 = c .before .before .before .before in
+    c4 .block .ensures
 
 pub +array+entries+fields+record+value+wire-spec : {M : Type 1} → statement M
 +array+entries+fields+record+value+wire-spec =
@@ -433,6 +663,7 @@ pub +array+entries+fields+record+value+wire-spec : {M : Type 1} → statement M
     (entries-value-requires t)
     (entries-enum-known-r t)
     (entries-enum-told t)
+    (entries-again-requires t)
     (entries-same-length t)
     (entries-same-length-2 t)
     (entries-returns t)
@@ -451,6 +682,7 @@ pub +array+entries+fields+record+value+wire-spec : {M : Type 1} → statement M
     (fields-value-requires t)
     (fields-enum-known-r t)
     (fields-enum-told t)
+    (fields-again-requires t)
     (fields-same-length t)
     (fields-same-length-2 t)
     (fields-returns t)
