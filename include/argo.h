@@ -63,7 +63,13 @@ enum {
     ARGO_NO_BLOCK = 29,       /* no block is left for a key that is touched now */
     ARGO_UNUSED = 30,         /* bytes or blocks are left at the end */
     ARGO_MANY_ROWS = 31,      /* one row more than ARGO_ROWS, or than the whole rows that were lent */
-    ARGO_MANY_LITERALS = 32,  /* one numbered literal more than 4,096, all keys together */
+    ARGO_MANY_LITERALS = 32,  /* over 4,096 numbered literals, all keys together; when writing, different values */
+
+    ARGO_MODES = 40,          /* the modes to write in are others than 0, 2 and 5 */
+    ARGO_ROWS_SIZE = 41,      /* the rows are not whole or over ARGO_ROWS, or the pool has over 65,536 bytes */
+    ARGO_UNFIT = 42,          /* a row that is bad, does not fit the table or is left over, or none where one must be; */
+                              /* second: the row, or their count */
+    ARGO_NO_ROOM = 43,        /* the message is longer than out, or than 65,536 bytes */
 
     ARGO_NO_ROW = 50,         /* the row number is beyond the rows */
     ARGO_BAD_ROW = 51         /* the row's kind or words, or its place is outside of the bytes */
@@ -80,6 +86,20 @@ argo_answer argo_check(const uint8_t *table, size_t table_len, uint32_t *work, s
  * parents first; places are counted in the message. It needs at most 64 KiB of stack, however deep the table is. */
 argo_answer argo_read(const uint8_t *table, size_t table_len, const uint8_t *message, size_t message_len,
                       uint64_t *rows, size_t rows_len, uint32_t *work, size_t work_len);
+
+/* Modes of a message, to be added up; its first byte is twice their sum. */
+enum {
+    ARGO_INLINE_EVERYTHING = 1,  /* mode 0: there are no blocks, and values stand in the core */
+    ARGO_OUT_OF_BAND_ERRORS = 4, /* mode 2: an error stands for null */
+    ARGO_NO_DEDUPLICATION = 32   /* mode 5: no backreferences, each value is written out */
+};
+
+/* Writes the tree of the rows under a table as a message at the front of out, in these modes; rows_len is a count of
+ * words, and places are counted in the pool. Answers the message's length in bytes. It needs at most 64 KiB of stack,
+ * however deep the table is. */
+argo_answer argo_write(const uint8_t *table, size_t table_len, uint64_t modes, const uint64_t *rows, size_t rows_len,
+                       const uint8_t *pool, size_t pool_len, uint8_t *out, size_t out_len, uint32_t *work,
+                       size_t work_len);
 
 /* A row that was looked at: its words, and the float of a float's row, which is 0 for any other. After a refusal all but
  * the number is 0. A NaN comes as some NaN; its bits are in a. */

@@ -7,7 +7,7 @@ use crate::table::{self, file, Node};
 use crate::{ffi, read, rows, write, MAX_BYTES, WORK_WORDS};
 
 /// Runs of each measurement; the best one counts.
-const RUNS: usize = 7;
+const RUNS: usize = 25;
 /// A run goes on for at least so many seconds.
 const RUN: f64 = 0.004;
 

@@ -82,7 +82,7 @@ impl Options {
             count: 1_000,
             kinds: gen::KINDS.to_string(),
             trace: false,
-            blocks: 4,
+            blocks: 10,
             with: None,
         };
         for pair in words.chunks(2) {

@@ -21,7 +21,7 @@ fn stored_cases_are_read_again() {
 
 #[test]
 fn stored_cases_reach_every_refusal() {
-    let stored = Store::new(1, "TRLP", 4, Vec::new());
+    let stored = Store::new(1, "TRWLP", 6, Vec::new());
     let reached: BTreeSet<(char, u64)> = decode(&stored.file)
         .unwrap()
         .iter()
@@ -30,8 +30,9 @@ fn stored_cases_reach_every_refusal() {
     let check = [0, 1, 10, 11, 12, 13, 14, 15];
     let expected = check
         .iter()
-        .flat_map(|&number| [('T', number), ('R', number)])
+        .flat_map(|&number| ['T', 'R', 'W'].map(|kind| (kind, number)))
         .chain((20..=32).map(|number| ('R', number)))
+        .chain([28, 40, 41, 42, 43].map(|number| ('W', number)))
         .chain([0, 50, 51].map(|number| ('L', number)));
     let missing: Vec<_> = expected.filter(|pair| !reached.contains(pair)).collect();
     assert!(missing.is_empty(), "{missing:?}");

@@ -6,6 +6,7 @@ ghost use Rattle.format.specs.Answer.{ok, refuse, number, second, output, zeros
 ghost use Rattle.format.specs.Table.{check};
 ghost use Rattle.format.specs.Row.{bare, words as wordsOf, look};
 ghost use Rattle.format.specs.Read.{read};
+ghost use Rattle.format.specs.Write.{write};
 ghost use Rattle.argo.specs.Exported.{Shows, Stands};
 ghost use Rattle.rows.specs.declared.Seen.the-variants.{Truth};
 ghost use Rattle.rows.specs.Seen.{seen, rightCase};
@@ -65,6 +66,28 @@ pub extern "C" fn argo_read(
     ensures { λ r. ⌜ now (work .exit) ≡ zeros (length (now (work .entry))) ⌝ }
 {
     let r = reader::read(table, message, rows, work);
+    Answer {
+        number: r.number,
+        second: r.second,
+    }
+}
+
+// Writes rows as a message.
+#[no_mangle]
+pub extern "C" fn argo_write(
+    table: &[u8],
+    modes: u64,
+    rows: &[u64],
+    pool: &[u8],
+    out: &mut [u8],
+    work: &mut [u32],
+) -> Answer
+    ensures { λ r. ⌜ r .number ≡ number (write (length (now (work .entry))) (now (table .entry)) modes (now (rows .entry)) (now (pool .entry)) (length (now (out .entry)))) ⌝ }
+    ensures { λ r. ⌜ r .second ≡ second (λ m. length m) (write (length (now (work .entry))) (now (table .entry)) modes (now (rows .entry)) (now (pool .entry)) (length (now (out .entry)))) ⌝ }
+    ensures { λ r. ⌜ now (out .exit) ≡ output (λ m. m) (length (now (out .entry))) (write (length (now (work .entry))) (now (table .entry)) modes (now (rows .entry)) (now (pool .entry)) (length (now (out .entry)))) ⌝ }
+    ensures { λ r. ⌜ now (work .exit) ≡ zeros (length (now (work .entry))) ⌝ }
+{
+    let r = writer::write(table, modes, rows, pool, out, work);
     Answer {
         number: r.number,
         second: r.second,

@@ -56,6 +56,42 @@ pub fn read(
     buffers::work_holds(work, k)
 }
 
+// The call alone; `wrote` looks at what it has left.
+pub fn write(
+    table: &[u8],
+    modes: u64,
+    rows: &[u64],
+    pool: &[u8],
+    out: &mut [u8],
+    room: u64,
+    work: &mut [u32],
+    words: u64,
+) -> Answer {
+    buffers::soil_bytes(out);
+    buffers::soil_work(work);
+    let n = lent(out.len(), room);
+    let k = lent(work.len(), words);
+    argo::argo_write(table, modes, rows, pool, &mut out[0..n], &mut work[0..k])
+}
+
+pub fn wrote(
+    a: Answer,
+    wanted: Wanted,
+    out: &[u8],
+    room: u64,
+    message: &[u8],
+    work: &[u32],
+    words: u64,
+) -> bool {
+    if !agree(a, wanted) {
+        return false;
+    }
+    if !buffers::out_holds(out, message, lent(out.len(), room)) {
+        return false;
+    }
+    buffers::work_holds(work, lent(work.len(), words))
+}
+
 // So many bytes are lent; looking reads none of them.
 pub fn look(
     rows: &[u64],

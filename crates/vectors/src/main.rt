@@ -7,6 +7,7 @@ mod buffers;
 mod calls;
 mod decode;
 
+use argo::Answer;
 use libc::STDIN_FILENO;
 use libc::STDOUT_FILENO;
 
@@ -78,6 +79,109 @@ fn read_case(
     Ran { same, at: w.at }
 }
 
+// What a writing case lends and gives, and the place after it.
+struct Given {
+    words: u64,
+    room: u64,
+    modes: u64,
+    table: usize,
+    rows: usize,
+    pool: usize,
+    at: usize,
+}
+
+fn lend(s: &[u8], at: usize, table: &mut [u8], rows: &mut [u64], pool: &mut [u8]) -> Given
+    requires { ⌜ at ≤ length (now s) ⌝ }
+    ensures { λ r. ⌜ (r .table ≤ length (now (table .entry))) × (r .rows ≤ length (now (rows .entry))) × (r .pool ≤ length (now (pool .entry))) × (r .at ≤ length (now (s .entry))) ⌝ }
+{
+    let words = decode::number(s, at);
+    let room = decode::number(s, words.at);
+    let modes = decode::number(s, room.at);
+    let t = decode::bytes(s, modes.at, table);
+    let r = decode::words(s, t.at, rows);
+    let p = decode::bytes(s, r.at, pool);
+    Given {
+        words: words.value,
+        room: room.value,
+        modes: modes.value,
+        table: t.size,
+        rows: r.size,
+        pool: p.size,
+        at: p.at,
+    }
+}
+
+// What the library has answered, with what is still to be looked at.
+struct Written {
+    answer: Answer,
+    words: u64,
+    room: u64,
+    at: usize,
+}
+
+fn write(
+    s: &[u8],
+    at: usize,
+    table: &mut [u8],
+    bytes: &mut [u8],
+    out: &mut [u8],
+    rows: &mut [u64],
+    work: &mut [u32],
+) -> Written
+    requires { ⌜ at ≤ length (now s) ⌝ }
+    ensures { λ r. ⌜ r .at ≤ length (now (s .entry)) ⌝ }
+{
+    let g = lend(s, at, table, rows, bytes);
+    let table_size = g.table;
+    let row_size = g.rows;
+    let pool_size = g.pool;
+    let answer = calls::write(
+        &table[0..table_size],
+        g.modes,
+        &rows[0..row_size],
+        &bytes[0..pool_size],
+        out,
+        g.room,
+        work,
+        g.words,
+    );
+    Written {
+        answer,
+        words: g.words,
+        room: g.room,
+        at: g.at,
+    }
+}
+
+// The stored message takes the pool's place.
+fn write_case(
+    s: &[u8],
+    at: usize,
+    table: &mut [u8],
+    bytes: &mut [u8],
+    out: &mut [u8],
+    rows: &mut [u64],
+    work: &mut [u32],
+) -> Ran
+    requires { ⌜ at ≤ length (now s) ⌝ }
+    ensures { λ r. ⌜ r .at ≤ length (now (s .entry)) ⌝ }
+{
+    let w = write(s, at, table, bytes, out, rows, work);
+    let wanted = decode::answer(s, w.at);
+    let m = decode::bytes(s, wanted.at, bytes);
+    let size = m.size;
+    let same = calls::wrote(
+        w.answer,
+        wanted,
+        out,
+        w.room,
+        &bytes[0..size],
+        work,
+        w.words,
+    );
+    Ran { same, at: m.at }
+}
+
 fn look_case(s: &[u8], at: usize, bytes: &[u8], rows: &mut [u64]) -> Ran
     requires { ⌜ at ≤ length (now s) ⌝ }
     ensures { λ r. ⌜ r .at ≤ length (now (s .entry)) ⌝ }
@@ -129,9 +233,14 @@ fn report(t: Tally) {
     io::write_all(STDOUT_FILENO, b" differ\n");
 }
 
-// One more case; a case that differs is named by its number.
+// One more. The number stays below a bound that no input comes near, so that it cannot wrap.
+fn next(n: u64) -> u64 {
+    n % 1000000000 + 1
+}
+
+// One more case; one that differs is named by its number.
 fn count(t: Tally, same: bool) -> Tally {
-    let ran = (t.ran % 1000000000) + 1;
+    let ran = next(t.ran);
     if same {
         return Tally {
             ran,
@@ -143,7 +252,7 @@ fn count(t: Tally, same: bool) -> Tally {
     io::write_all(STDOUT_FILENO, b"\n");
     Tally {
         ran,
-        differ: t.differ % 1000000000 + 1,
+        differ: next(t.differ),
     }
 }
 
@@ -154,6 +263,7 @@ fn case(
     at: usize,
     table: &mut [u8],
     bytes: &mut [u8],
+    out: &mut [u8],
     rows: &mut [u64],
     wanted: &mut [u64],
     work: &mut [u32],
@@ -167,6 +277,9 @@ fn case(
     if letter == b'R' {
         return read_case(s, at, table, bytes, rows, wanted, work);
     }
+    if letter == b'W' {
+        return write_case(s, at, table, bytes, out, rows, work);
+    }
     if letter == b'L' {
         return look_case(s, at, bytes, rows);
     }
@@ -179,6 +292,7 @@ fn block(
     tally: Tally,
     table: &mut [u8],
     bytes: &mut [u8],
+    out: &mut [u8],
     rows: &mut [u64],
     wanted: &mut [u64],
     work: &mut [u32],
@@ -195,7 +309,7 @@ fn block(
         if letter == 0 {
             return t;
         }
-        let r = case(s, letter, at + 1, table, bytes, rows, wanted, work);
+        let r = case(s, letter, at + 1, table, bytes, out, rows, wanted, work);
         t = count(t, r.same);
         at = r.at;
     }
@@ -207,6 +321,7 @@ fn next_block(t: Tally) -> Turn {
     let mut input = [0u8; 65536];
     let mut table = [0u8; 73728];
     let mut bytes = [0u8; 73728];
+    let mut out = [0u8; 73728];
     let mut rows = [0u64; 25000];
     let mut wanted = [0u64; 25000];
     let mut work = [0u32; 21504];
@@ -216,6 +331,7 @@ fn next_block(t: Tally) -> Turn {
         t,
         &mut table,
         &mut bytes,
+        &mut out,
         &mut rows,
         &mut wanted,
         &mut work,

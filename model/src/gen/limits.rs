@@ -1,4 +1,5 @@
-//! Both sides of every limit that only a large case can reach; the fixed list has the small ones.
+//! Both sides of every limit that only a large case can reach, for the fixed list has the small ones; and each refusal of
+//! a table by reader and writer.
 
 use super::assemble;
 use super::fixed::{array_chain, read, table_e, table_s, two_texts, OUT, ROWS};
@@ -17,6 +18,7 @@ pub fn cases() -> Vec<Case> {
     deepest_path(&mut cases);
     all_keys(&mut cases);
     longest_outputs(&mut cases);
+    bad_tables(&mut cases);
     cases
 }
 
@@ -181,5 +183,48 @@ fn longest_outputs(cases: &mut Vec<Case>) {
             let list = [[rows::ARRAY, 1, 0], text(0, size)].concat();
             cases.push(write(&table_s(), out, list, vec![b'p'; size]));
         }
+    }
+}
+
+/// 10 to 15 from reader and writer too, before anything that is wrong with the message or the rows.
+fn bad_tables(cases: &mut Vec<Case>) {
+    let n = Node::new;
+    let sound = file(&table_s());
+    let changed = |at: usize| {
+        let mut table = sound.clone();
+        table[at] ^= 4;
+        table
+    };
+    let left_over = [n(table::BOOLEAN, 0, 0), n(table::BOOLEAN, 0, 0)];
+    let two_kinds = [
+        n(table::RECORD, 0, 2),
+        n(table::BLOCK, 0, 9),
+        n(table::STRING, 0, 0),
+        n(table::BLOCK, 0, 9),
+        n(table::BYTES, 0, 0),
+    ];
+    let tables = [
+        changed(0),
+        changed(3),
+        changed(5),
+        changed(8),
+        file(&left_over),
+        file(&two_kinds),
+    ];
+    for table in tables {
+        cases.push(Case::Read {
+            work: WORK_WORDS,
+            rows: 10,
+            table: table.clone(),
+            message: Vec::new(),
+        });
+        cases.push(Case::Write {
+            work: WORK_WORDS,
+            out: 10,
+            modes: 2,
+            table,
+            rows: vec![99],
+            pool: Vec::new(),
+        });
     }
 }

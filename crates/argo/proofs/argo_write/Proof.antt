@@ -1,0 +1,19 @@
+-- `argo::argo_write` meets its contract: its four equations are the writer's first four. Assumes nothing.
+use borrow.Author.Needs.{needs}
+use Rattle.argo.proofs.argo_write.Statement.{statement}
+use Rattle.argo.proofs.argo_write.Tie as tie
+
+write-requires : tie.Need-write-requires
+write-requires c κs = search needs
+
+same-length : tie.Need-same-length
+same-length c = search needs
+
+same-length-2 : tie.Need-same-length-2
+same-length-2 c = search needs
+
+returns : tie.Need-returns
+returns c = let e = c .before .before .before .before .write .ensures in (e .0, (e .1 .0, (e .1 .1 .0, e .1 .1 .1 .0)))
+
+pub argo-write-spec : {M : Type 1} → statement M
+argo-write-spec = tie.close (tie.spec write-requires same-length same-length-2 returns)
