@@ -1,0 +1,153 @@
+//! A checked table, and the buffers that calls are lent.
+
+use std::borrow::Cow;
+
+use crate::ffi;
+use crate::modes::Modes;
+use crate::refusal::{Call, Refusal};
+use crate::rows::Rows;
+use crate::tree::Tree;
+use crate::{MAX_BYTES, MAX_ROWS};
+
+/// Words that a call wants as work.
+const WORK: usize = 16_384;
+
+fn work() -> Box<[u32]> {
+    vec![0; WORK].into_boxed_slice()
+}
+
+/// The count of a success, or the refusal.
+fn counted(call: Call, answer: ffi::Answer) -> Result<usize, Refusal> {
+    match Refusal::of(call, answer.number, answer.second) {
+        None => Ok(answer.second as usize),
+        Some(refusal) => Err(refusal),
+    }
+}
+
+/// A table that the library has checked. It may be shared by threads.
+#[derive(Clone, Debug, PartialEq, Eq)]
+pub struct Table {
+    bytes: Box<[u8]>,
+    nodes: usize,
+}
+
+impl Table {
+    /// Checks the bytes of a table file, and keeps them. Refuses with the table's faults, 10 to 15.
+    pub fn new(bytes: impl Into<Box<[u8]>>) -> Result<Table, Refusal> {
+        let bytes = bytes.into();
+        let nodes = counted(Call::Check, ffi::check(&bytes, &mut work()))?;
+        Ok(Table { bytes, nodes })
+    }
+
+    /// How many nodes it has.
+    pub fn nodes(&self) -> usize {
+        self.nodes
+    }
+
+    /// The bytes of the file.
+    pub fn as_bytes(&self) -> &[u8] {
+        &self.bytes
+    }
+
+    /// Reads a message, with buffers of its own; for many messages, [`Codec::read`] has them once.
+    pub fn read<'m>(&self, message: &'m [u8]) -> Result<Rows<'static, 'm>, Refusal> {
+        let mut rows = vec![0; 3 * MAX_ROWS];
+        let count = read(self, message, &mut rows, &mut work())?;
+        rows.truncate(3 * count);
+        Ok(Rows::new(Cow::Owned(rows), message))
+    }
+
+    /// Writes a tree, with buffers of its own; for many trees, [`Codec::write`] has them once.
+    pub fn write(&self, modes: Modes, tree: &Tree) -> Result<Vec<u8>, Refusal> {
+        let mut out = vec![0; MAX_BYTES];
+        let length = write(self, modes, tree, &mut out, &mut work())?;
+        out.truncate(length);
+        Ok(out)
+    }
+}
+
+/// The buffers that reading and writing are lent, 320 KiB, allocated once. A thread has its own.
+#[derive(Debug)]
+pub struct Codec {
+    work: Box<[u32]>,
+    rows: Box<[u64]>,
+    out: Box<[u8]>,
+}
+
+impl Codec {
+    /// With room for the largest message.
+    pub fn new() -> Codec {
+        Codec::with_rows(MAX_ROWS)
+    }
+
+    /// With room for reading so many rows, of which 8,192 are enough. A call zeroes all of its rows, so that for small
+    /// messages fewer are quicker; a message with more is refused with [`Refusal::ManyRows`].
+    pub fn with_rows(rows: usize) -> Codec {
+        Codec {
+            work: work(),
+            rows: vec![0; 3 * rows.min(MAX_ROWS)].into(),
+            out: vec![0; MAX_BYTES].into(),
+        }
+    }
+
+    /// Reads a message. Nothing is copied: the rows stay in the codec, the values' bytes in the message.
+    pub fn read<'c, 'm>(
+        &'c mut self,
+        table: &Table,
+        message: &'m [u8],
+    ) -> Result<Rows<'c, 'm>, Refusal> {
+        let count = read(table, message, &mut self.rows, &mut self.work)?;
+        Ok(Rows::new(Cow::Borrowed(&self.rows[..3 * count]), message))
+    }
+
+    /// Writes a tree. The message stays in the codec until the next call.
+    pub fn write(&mut self, table: &Table, modes: Modes, tree: &Tree) -> Result<&[u8], Refusal> {
+        let length = write(table, modes, tree, &mut self.out, &mut self.work)?;
+        Ok(&self.out[..length])
+    }
+
+    /// Writes a tree at the front of `out`, of which the rest is zeroed, and answers the message's length. Refuses with
+    /// [`Refusal::NoRoom`] where it does not fit. After a refusal `out` holds zeros alone.
+    pub fn write_to(
+        &mut self,
+        table: &Table,
+        modes: Modes,
+        tree: &Tree,
+        out: &mut [u8],
+    ) -> Result<usize, Refusal> {
+        write(table, modes, tree, out, &mut self.work)
+    }
+}
+
+impl Default for Codec {
+    fn default() -> Codec {
+        Codec::new()
+    }
+}
+
+fn read(
+    table: &Table,
+    message: &[u8],
+    rows: &mut [u64],
+    work: &mut [u32],
+) -> Result<usize, Refusal> {
+    counted(Call::Read, ffi::read(&table.bytes, message, rows, work))
+}
+
+fn write(
+    table: &Table,
+    modes: Modes,
+    tree: &Tree,
+    out: &mut [u8],
+    work: &mut [u32],
+) -> Result<usize, Refusal> {
+    let answer = ffi::write(
+        &table.bytes,
+        modes.bits(),
+        tree.words(),
+        tree.pool(),
+        out,
+        work,
+    );
+    counted(Call::Write, answer)
+}

@@ -1,0 +1,140 @@
+//! Rows that were read.
+
+use std::borrow::Cow;
+use std::iter::FusedIterator;
+
+use crate::modes::Modes;
+use crate::value::{look, Value};
+
+/// The tree of a message, as rows: parents first, each with all below it before the next. Rows are numbered from 0, the
+/// root.
+///
+/// The values' bytes are borrowed from the message (`'m`), so they outlive the rows, which may be borrowed from a codec
+/// (`'c`).
+#[derive(Clone, Debug)]
+pub struct Rows<'c, 'm> {
+    words: Cow<'c, [u64]>,
+    message: &'m [u8],
+}
+
+impl<'c, 'm> Rows<'c, 'm> {
+    /// The words are whole rows that the library made of this message, so that looking at one is never refused.
+    pub(crate) fn new(words: Cow<'c, [u64]>, message: &'m [u8]) -> Rows<'c, 'm> {
+        Rows { words, message }
+    }
+
+    /// How many rows there are; a message has one at least.
+    #[allow(clippy::len_without_is_empty)]
+    pub fn len(&self) -> usize {
+        self.words.len() / 3
+    }
+
+    /// The value of a row; none beyond the rows.
+    pub fn get(&self, row: usize) -> Option<Value<'m>> {
+        look(&self.words, self.message, row).ok()
+    }
+
+    /// All values, in order.
+    pub fn iter(&self) -> Iter<'_, 'm> {
+        Iter { rows: self, row: 0 }
+    }
+
+    /// The row after this one and all below it: where its next sibling stands, if it has one.
+    pub fn after(&self, row: usize) -> usize {
+        let mut row = row;
+        let mut left = 1;
+        while left > 0 {
+            let Some(value) = self.get(row) else { break };
+            left += value.children();
+            left -= 1;
+            row += 1;
+        }
+        row
+    }
+
+    /// The rows right below this one: a record's fields, an array's entries, else none.
+    pub fn children(&self, row: usize) -> Children<'_, 'm> {
+        Children {
+            rows: self,
+            row: row.saturating_add(1),
+            left: self.get(row).map_or(0, Value::children),
+        }
+    }
+
+    /// The modes of the message.
+    pub fn modes(&self) -> Modes {
+        Modes::of_header(self.message)
+    }
+
+    /// The rows, three words each; places are counted in the message. [`look`](crate::look) takes them.
+    pub fn words(&self) -> &[u64] {
+        &self.words
+    }
+
+    /// The message.
+    pub fn message(&self) -> &'m [u8] {
+        self.message
+    }
+}
+
+impl<'r, 'm> IntoIterator for &'r Rows<'_, 'm> {
+    type Item = Value<'m>;
+    type IntoIter = Iter<'r, 'm>;
+
+    fn into_iter(self) -> Iter<'r, 'm> {
+        self.iter()
+    }
+}
+
+/// All values of a tree, in order.
+#[derive(Clone, Debug)]
+pub struct Iter<'r, 'm> {
+    rows: &'r Rows<'r, 'm>,
+    row: usize,
+}
+
+impl<'m> Iterator for Iter<'_, 'm> {
+    type Item = Value<'m>;
+
+    fn next(&mut self) -> Option<Value<'m>> {
+        let value = self.rows.get(self.row)?;
+        self.row += 1;
+        Some(value)
+    }
+
+    fn size_hint(&self) -> (usize, Option<usize>) {
+        let left = self.rows.len() - self.row;
+        (left, Some(left))
+    }
+}
+
+impl ExactSizeIterator for Iter<'_, '_> {}
+impl FusedIterator for Iter<'_, '_> {}
+
+/// The rows right below one.
+#[derive(Clone, Debug)]
+pub struct Children<'r, 'm> {
+    rows: &'r Rows<'r, 'm>,
+    row: usize,
+    left: usize,
+}
+
+impl Iterator for Children<'_, '_> {
+    type Item = usize;
+
+    fn next(&mut self) -> Option<usize> {
+        self.left = self.left.checked_sub(1)?;
+        let row = self.row;
+        if self.left > 0 {
+            self.row = self.rows.after(row);
+        }
+        Some(row)
+    }
+
+    fn size_hint(&self) -> (usize, Option<usize>) {
+        (self.left, Some(self.left))
+    }
+}
+
+impl ExactSizeIterator for Children<'_, '_> {}
+impl FusedIterator for Children<'_, '_> {}

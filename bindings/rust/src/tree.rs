@@ -1,0 +1,98 @@
+//! Rows to be written.
+
+use std::collections::HashMap;
+
+use crate::value::{kind, Value};
+
+/// A tree to be written: its values are pushed parents first, each with all below it before the next.
+///
+/// The bytes of strings, bytes and fixed values are copied, equal ones once. So a tree whose message is not too long
+/// never has more bytes here than are allowed.
+#[derive(Clone, Debug, Default)]
+pub struct Tree {
+    words: Vec<u64>,
+    pool: Vec<u8>,
+    starts: HashMap<Box<[u8]>, usize>,
+}
+
+impl Tree {
+    /// No values yet.
+    pub fn new() -> Tree {
+        Tree::default()
+    }
+
+    /// Adds the next value. Whether it fits is judged when the tree is written.
+    pub fn push(&mut self, value: Value) -> &mut Tree {
+        let row = match value {
+            Value::Null => [kind::NULL, 0, 0],
+            Value::Absent => [kind::ABSENT, 0, 0],
+            Value::Bool(false) => [kind::FALSE, 0, 0],
+            Value::Bool(true) => [kind::TRUE, 0, 0],
+            Value::Int(n) => [kind::INTEGER, n as u64, 0],
+            Value::Float(f) => [kind::FLOAT, f.to_bits(), 0],
+            Value::Str(text) => self.place(kind::STRING, text.as_bytes()),
+            Value::Bytes(bytes) => self.place(kind::BYTES, bytes),
+            Value::Fixed(bytes) => self.place(kind::FIXED, bytes),
+            Value::Record(fields) => [kind::RECORD, fields as u64, 0],
+            Value::Array(entries) => [kind::ARRAY, entries as u64, 0],
+        };
+        self.words.extend(row);
+        self
+    }
+
+    fn place(&mut self, kind: u64, bytes: &[u8]) -> [u64; 3] {
+        let start = match self.starts.get(bytes) {
+            Some(&start) => start,
+            None => {
+                let start = self.pool.len();
+                self.pool.extend(bytes);
+                self.starts.insert(bytes.into(), start);
+                start
+            }
+        };
+        [kind, start as u64, bytes.len() as u64]
+    }
+
+    /// How many values there are.
+    pub fn len(&self) -> usize {
+        self.words.len() / 3
+    }
+
+    /// Are there none?
+    pub fn is_empty(&self) -> bool {
+        self.words.is_empty()
+    }
+
+    /// Takes all values out, and keeps the memory for the next tree.
+    pub fn clear(&mut self) {
+        self.words.clear();
+        self.pool.clear();
+        self.starts.clear();
+    }
+
+    /// The rows, three words each.
+    pub fn words(&self) -> &[u64] {
+        &self.words
+    }
+
+    /// The bytes that the rows' places are counted in.
+    pub fn pool(&self) -> &[u8] {
+        &self.pool
+    }
+}
+
+impl<'m> Extend<Value<'m>> for Tree {
+    fn extend<I: IntoIterator<Item = Value<'m>>>(&mut self, values: I) {
+        for value in values {
+            self.push(value);
+        }
+    }
+}
+
+impl<'m> FromIterator<Value<'m>> for Tree {
+    fn from_iter<I: IntoIterator<Item = Value<'m>>>(values: I) -> Tree {
+        let mut tree = Tree::new();
+        tree.extend(values);
+        tree
+    }
+}
