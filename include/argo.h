@@ -1,13 +1,59 @@
-/* Argo: a proved codec for job feeds. `rt staticlib argo` makes target/staticlib/libargo.a.
+/* Argo: a proved codec for job feeds. It checks a wire-type table, reads a message into rows, writes rows as a message,
+ * and looks at one row. For C11, and for C++.
  *
- * Each call takes what is lent to it and answers; it keeps nothing, allocates nothing and prints nothing. A buffer is a
- * pointer and a count of elements; the pointer of an empty one may be NULL. The buffers of one call must not overlap,
- * and what they hold before the call does not matter where a call writes to them.
+ *     rt staticlib argo
+ *     gcc -std=c11 -Iinclude program.c target/staticlib/libargo.a
  *
- * An answer is a number and a second number. The number is 0 on success, and the second number is then a count: of
- * nodes, rows or bytes. A refusal's number says why (the list below), and its second number which node or row; it is 0
- * where nothing is said of it. After any answer the work holds zeros. Outputs hold the answer and zeros after it, or
- * zeros alone after a refusal.
+ * The library is for x86-64 Linux. It is position-independent, so it links into programs and shared libraries alike.
+ * Of the C library it wants memset alone.
+ *
+ * BUFFERS
+ *   A buffer is a pointer and a count: of elements, never of bytes, so rows_len and work_len count words. It is the
+ *   caller's before, during and after the call: the library allocates nothing, frees nothing and keeps no pointer.
+ * - The pointer is aligned for its type: 4 bytes for work, 8 for rows, none for bytes.
+ * - Where the count is 0 the pointer is not used; it may be NULL. Else it points to so many elements.
+ * - Buffers that are not const are written to, each element of them, and what they hold before does not matter: they
+ *   need not be initialised. More than enough may be lent, and costs the time to zero it.
+ * - A buffer that is written to must not overlap another buffer of the same call. Those that are only read may.
+ *
+ *   Enough for every call: ARGO_WORK words of work; ARGO_ROW_WORDS * ARGO_ROWS words of rows to read into; 65,536 bytes
+ *   of out to write to. Less of rows or out is no fault, as long as the answer fits.
+ *
+ * TABLES
+ *   A table has 7 + 4n bytes: the letters AWT, the version (1) and n (1 to 1,024) in 16 bits each, then n nodes:
+ *   kind, flags, and a 16-bit argument; numbers are little-endian. Kinds: 1 STRING, 2 BOOLEAN, 3 VARINT, 4 FLOAT64, 5
+ *   BYTES, 6 FIXED (its length, at most 4,096), 7 RECORD (its number of fields), 8 ARRAY, 9 BLOCK (its key, 0 to 31),
+ *   10 NULLABLE; other arguments are 0. Flag 1 is omittable, on a field's top node only; flag 2 is deduplicate, on a
+ *   BLOCK of STRING or BYTES only. Nodes stand parents first. A BLOCK holds one of 1, 3, 4, 5 and 6, which stand
+ *   nowhere else. A NULLABLE holds no NULLABLE. A path has at most 32 nodes. All BLOCKs of a key agree in kind,
+ *   length and deduplicate.
+ *   A row stands for each RECORD, ARRAY, BOOLEAN and BLOCK that the tree has; where a NULLABLE is null or an omittable
+ *   field is absent, a row of that kind stands for all below.
+ *
+ * TEXT
+ *   A STRING is UTF-8 by the feed's rule: 00 to 7F alone; C0 to DF and one byte 80 to BF; E0 to EF and two; F0 to F7
+ *   and three. So it may have overlong forms, surrogates, numbers beyond 10FFFF, and zero bytes; it does not end in
+ *   one.
+ *
+ * ANSWERS
+ *   Every call returns, whatever the buffers hold, and the same arguments always have the same answer. An answer is a
+ *   number and a second number. The number is 0 on success, and the second number is then a count: of nodes, rows or
+ *   bytes. Else the call is refused: the number says why (the list below) and the second number which node of the table
+ *   or which row, counted from 0; it is 0 where the list names neither.
+ *   After a success an output holds the answer and zeros after it; after a refusal it holds zeros alone. The work holds
+ *   zeros after every call.
+ *
+ *   Of several faults the first in this order is answered: 1; 10 to 15, each over all nodes before the next; then
+ *   when reading, 20, 21, 22, the first fault in the tree's order, 30;
+ *   when writing, 40, 41, the first row at fault, 32, 43;
+ *   when looking at a row, 50, 51.
+ *   At one value, when reading: 23, 24 to 26, 29, 27, 28, 32, 31, but an integer's own 23 comes after 29; when writing:
+ *   42, 28. docs/REFUSALS.md says whose fault each one is, and what to do.
+ *
+ * THREADS, SIGNALS, STACK
+ *   The library has no state, not even errno: calls may be made from several threads at once and from signal handlers,
+ *   as long as no two of them that run at a time share a buffer that one writes to. It prints nothing and never blocks.
+ *   A call needs at most 64 KiB of stack, however deep the table is; docs/PERFORMANCE.md has what was measured.
  */
 #ifndef ARGO_H
 #define ARGO_H
@@ -19,11 +65,12 @@
 extern "C" {
 #endif
 
-/* Words of 32 bits that a call wants as work, and rows that a message has at most. */
+/* Words of 32 bits that a call wants as work, at least, and rows that a message has at most. */
 #define ARGO_WORK 16384
 #define ARGO_ROWS 8192
 
-/* A row is three words of 64 bits: its kind, a and b. Words that its kind does not use are 0. */
+/* A row is three words of 64 bits: its kind, a and b. Words that its kind does not use are 0. Rows stand parents first:
+ * after a record or an array come its fields or entries in order, each with all below it. Row 0 is the root. */
 enum {
     ARGO_ROW_WORDS = 3,
 
@@ -40,7 +87,8 @@ enum {
     ARGO_ARRAY = 10   /* a entries follow, likewise */
 };
 
-/* Refusals, by number. */
+/* Refusals, by number. 33, a path of over 32 nodes, is in the rules too, but it is never answered: the table check
+ * refuses such a table with 14. */
 enum {
     ARGO_WORK_SHORT = 1,      /* work has fewer than ARGO_WORK words */
 
@@ -79,15 +127,18 @@ typedef struct {
     uint64_t number, second;
 } argo_answer;
 
-/* Checks a table. Answers its node count. */
+/* Checks a table. Answers its node count, 1 to 1,024.
+ * Refusals: ARGO_WORK_SHORT, ARGO_TABLE_MARK to ARGO_TABLE_KEY. */
 argo_answer argo_check(const uint8_t *table, size_t table_len, uint32_t *work, size_t work_len);
 
-/* Reads a message under a table into rows; rows_len is a count of words. Answers how many rows there are. The rows come
- * parents first; places are counted in the message. It needs at most 64 KiB of stack, however deep the table is. */
+/* Reads a message under a table into rows; rows_len is a count of words, ARGO_ROW_WORDS for each row, and words after
+ * the last whole row are only zeroed. Answers how many rows there are, 1 to ARGO_ROWS. Places are counted in the
+ * message, so it must be kept as long as the rows are used. The table is checked first, in each call.
+ * Refusals: those of argo_check, ARGO_MESSAGE_SIZE to ARGO_MANY_LITERALS. */
 argo_answer argo_read(const uint8_t *table, size_t table_len, const uint8_t *message, size_t message_len,
                       uint64_t *rows, size_t rows_len, uint32_t *work, size_t work_len);
 
-/* Modes of a message, to be added up; its first byte is twice their sum. */
+/* Modes of a message, to be added up, each once; its first byte is twice their sum. 0 is no mode. */
 enum {
     ARGO_INLINE_EVERYTHING = 1,  /* mode 0: there are no blocks, and values stand in the core */
     ARGO_OUT_OF_BAND_ERRORS = 4, /* mode 2: an error stands for null */
@@ -95,28 +146,34 @@ enum {
 };
 
 /* Writes the tree of the rows under a table as a message at the front of out, in these modes; rows_len is a count of
- * words, and places are counted in the pool. Answers the message's length in bytes. It needs at most 64 KiB of stack,
- * however deep the table is. */
+ * words, and places are counted in the pool, where they may overlap, repeat and leave gaps. Answers the message's
+ * length in bytes, 1 to 65,536. Rows that were read are written with their message as the pool. The table is checked
+ * first, in each call.
+ * Refusals: those of argo_check, ARGO_TEXT, ARGO_MANY_LITERALS, ARGO_MODES to ARGO_NO_ROOM. */
 argo_answer argo_write(const uint8_t *table, size_t table_len, uint64_t modes, const uint64_t *rows, size_t rows_len,
                        const uint8_t *pool, size_t pool_len, uint8_t *out, size_t out_len, uint32_t *work,
                        size_t work_len);
 
-/* A row that was looked at: its words, and the float of a float's row, which is 0 for any other. After a refusal all but
- * the number is 0. A NaN comes as some NaN; its bits are in a. */
+/* A row that was looked at: 0 or a refusal's number, and 0; the row's words; and the float of a float's row, which is 0
+ * for any other. After a refusal all but the number is 0. A NaN comes as some NaN; its bits are in a. */
 typedef struct {
     uint64_t number, second, kind, a, b;
     double value;
 } argo_seen;
 
-/* Looks at one row, whose place, if it has one, must be inside of the bytes: those of the message or the pool. */
+/* Looks at row number index, from 0, whose place, if it has one, must be inside of the bytes: those of the message or
+ * the pool. rows_len is a count of words, and words after the last whole row are no row. A row that argo_read made is
+ * never refused with its own message.
+ * Refusals: ARGO_NO_ROW, ARGO_BAD_ROW. */
 argo_seen argo_look(const uint64_t *rows, size_t rows_len, const uint8_t *bytes, size_t bytes_len, size_t index);
 
 typedef struct {
     uint64_t start, len;
 } argo_place;
 
-/* Where in the bytes the part of a string, bytes or fixed row stands, always inside of them; the empty part at 0 if the
- * row is not there, is none of these or points outside. */
+/* Where in the bytes the part of a string, bytes or fixed row stands, always inside of them: start + len is at most
+ * bytes_len. It is never refused; it is the empty part at 0 if the row is not there, is none of these or points
+ * outside. */
 argo_place argo_part(const uint64_t *rows, size_t rows_len, const uint8_t *bytes, size_t bytes_len, size_t index);
 
 #ifdef __cplusplus
