@@ -1,34 +1,88 @@
-/* Writes three job states as a message, and prints its bytes:
+/* Writes a small night of jobs as a message: write TABLE >MESSAGE. It is the sample's:
  *
  *     rt staticlib argo
  *     gcc -Iinclude -o write examples/write.c target/staticlib/libargo.a
- *     ./write
+ *     ./write samples/night.table | cmp - samples/night.message
  */
 #include <inttypes.h>
 #include <stdio.h>
+#include <string.h>
 
 #include "argo.h"
 
-int main(void)
+typedef struct {
+    const char *name, *status, *note; /* the note may be NULL: none was taken */
+    int64_t seconds;                  /* UNKNOWN: the field is left out */
+    uint8_t digest[8];
+} job;
+
+enum { UNKNOWN = -1 };
+
+static const job night[] = {
+    {"parser", "PASSED", "", 41, {0x1f, 0x8b, 0x5e, 0x02, 0xa7, 0x44, 0x90, 0x3c}},
+    {"linker", "KILLED", "out of memory", UNKNOWN, {0}},
+    {"manual", "PASSED", NULL, 7, {0xd4, 0x01, 0x77, 0xee, 0x20, 0x6b, 0x5a, 0x98}},
+    {"parser", "PASSED", "", 43, {0x1f, 0x8b, 0x5e, 0x02, 0xa7, 0x44, 0x90, 0x3c}},
+};
+
+enum { JOBS = sizeof night / sizeof *night };
+
+/* The tree: rows, parents first, and the pool that the places of texts and digests are counted in. */
+static uint64_t rows[ARGO_ROW_WORDS * (1 + 6 * JOBS)];
+static size_t words;
+static uint8_t pool[1024];
+static size_t pooled;
+
+static void row(uint64_t kind, uint64_t a, uint64_t b)
 {
-    /* An array of texts under key 0, which deduplicates: the mark, version 1, 3 nodes; ARRAY, BLOCK, STRING. */
-    static const uint8_t table[] = {'A', 'W', 'T', 1, 0, 3, 0, 8, 0, 0, 0, 9, 2, 0, 0, 1, 0, 0, 0};
-    /* Three texts, as places in the pool. The third has the bytes of the first, so it is named and not written out. */
-    static const uint8_t pool[] = "PASSEDKILLEDPASSED";
-    static const uint64_t rows[] = {
-        ARGO_ARRAY, 3, 0, ARGO_STRING, 0, 6, ARGO_STRING, 6, 6, ARGO_STRING, 12, 6,
-    };
-    static uint8_t out[64];
+    rows[words++] = kind;
+    rows[words++] = a;
+    rows[words++] = b;
+}
+
+static void place(uint64_t kind, const void *bytes, size_t len)
+{
+    row(kind, pooled, len);
+    memcpy(pool + pooled, bytes, len);
+    pooled += len;
+}
+
+static void job_rows(const job *j)
+{
+    row(ARGO_RECORD, 5, 0);
+    place(ARGO_STRING, j->name, strlen(j->name));
+    place(ARGO_STRING, j->status, strlen(j->status));
+    if (j->note)
+        place(ARGO_STRING, j->note, strlen(j->note));
+    else
+        row(ARGO_NULL, 0, 0);
+    if (j->seconds != UNKNOWN)
+        row(ARGO_INTEGER, (uint64_t)j->seconds, 0);
+    else
+        row(ARGO_ABSENT, 0, 0);
+    place(ARGO_FIXED, j->digest, sizeof j->digest);
+}
+
+int main(int argc, char **argv)
+{
+    static uint8_t table[7 + 4 * 1024 + 1]; /* one byte more than a table has at most */
+    static uint8_t message[1024];
     static uint32_t work[ARGO_WORK];
-    argo_answer written = argo_write(table, sizeof table, 0, rows, sizeof rows / sizeof *rows, pool, sizeof pool - 1,
-                                     out, sizeof out, work, ARGO_WORK);
+    FILE *in = argc == 2 ? fopen(argv[1], "rb") : NULL;
+    if (!in) {
+        fprintf(stderr, "usage: write TABLE >MESSAGE\n");
+        return 2;
+    }
+    size_t table_len = fread(table, 1, sizeof table, in);
+    fclose(in);
+    row(ARGO_ARRAY, JOBS, 0);
+    for (size_t i = 0; i < JOBS; i++)
+        job_rows(&night[i]);
+    argo_answer written = argo_write(table, table_len, 0, rows, words, pool, pooled, message, sizeof message, work,
+                                     ARGO_WORK);
     if (written.number != 0) {
         fprintf(stderr, "refused: %" PRIu64 " %" PRIu64 "\n", written.number, written.second);
         return 1;
     }
-    printf("%" PRIu64 " bytes:", written.second);
-    for (uint64_t i = 0; i < written.second; i++)
-        printf(" %02x", out[i]);
-    putchar('\n');
-    return 0;
+    return fwrite(message, 1, written.second, stdout) == written.second ? 0 : 1;
 }
