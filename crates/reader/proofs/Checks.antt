@@ -7,8 +7,8 @@ use Rattle.format.specs.Answer.{refuse, _>>=_, number, second, output, zeros}
 use Rattle.format.specs.Table.{check}
 use Rattle.format.specs.Row.{words}
 use Rattle.format.specs.Read.{readChecked, read}
-use Rattle.table.specs.Tree.{ends}
-use Rattle.table.specs.Refusals.{refusal-is}
+use Rattle.table.specs.Passes.{Leaves}
+use Rattle.table.specs.Refusals.{refusal-is, refused-zeros}
 use Rattle.typed.specs.Root.{check-then}
 use Rattle.reader.specs.Reader.{rowsOf}
 
@@ -25,10 +25,10 @@ module _ (table m w l : List ℕ) where
     unfolding read _>>=_
     refused = rw check-is refl
 
-    pub check-refuses : {w₁ l₁ : List ℕ} → w₁ ≡ output (λ s. ends 0 (s .root)) (length w) (check (length w) table) → l₁ ≡ zeros (length l)
+    pub check-refuses : {w₁ l₁ : List ℕ} → Leaves w₁ (length w) (check (length w) table) → l₁ ≡ zeros (length l)
         → (n ≡ number (read (length w) table m lent)) × ((i ≡ second (λ rs. length rs) (read (length w) table m lent)) × ((l₁ ≡ output words lent (read (length w) table m lent)) × (w₁ ≡ zeros (length w))))
     unfolding number second output
-    check-refuses d h = rw refused (refl, (refl, (h, d ∙ rw check-is refl)))
+    check-refuses d h = rw refused (refl, (refl, (h, refused-zeros (length w) table (λ e. z (e₁ ∙ e)) d)))
 
   -- it accepts: then the message decides
   pub read-is : number (check (length w) table) ≡ 0 → rowsOf table m lent ≡ read (length w) table m lent

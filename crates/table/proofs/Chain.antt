@@ -2,20 +2,20 @@
 use mathlib.Core.Path.{_≡_, refl, sym, ap, _∙_, subst}
 use mathlib.Core.Bool.{true}
 use mathlib.Core.List.{List}
-use Prim.Native.Nat.{ℕ, zero, suc, _+_, _-_, _*_, _<_, _≤_}
+use Prim.Native.Nat.{ℕ, _+_, _*_, _<_, _≤_}
 use native.Mathlib.Nat.{zero-add}
 use native.Mathlib.Omega.{arith}
 use lib.Dec.{eqb}
-use lib.ListN.{length, drop, length-replicate, getD-replicate}
-use lib.Seq.{sets, sets-eq, getD-append-add}
+use lib.ListN.{length, getD, List·getD-append}
+use lib.Seq.{sets, sets-eq}
 use borrow.Author.Tests.{le-leb, lt-leb}
-use Rattle.format.specs.Answer.{Answer, ok, refuse, _>>=_, _>>_, need, needAt, number, second, output, zeros, padded}
-use Rattle.format.specs.Table.{u16, nodeAt, Node, Schema, isMarked, rightCount, rightAlone, each, tree, agrees, heldBy, schemaOf, check}
+use Rattle.format.specs.Answer.{Answer, ok, refuse, _>>=_, _>>_, need, needAt, number, second, zeros}
+use Rattle.format.specs.Table.{u16, nodeAt, atRoot, Node, Schema, isMarked, rightCount, rightAlone, each, tree, agrees, heldBy, schemaOf, check}
 use Rattle.table.specs.Cases.{then-elim, need-true, ok-inj}
-use Rattle.table.specs.Tree.{ends}
-use Rattle.table.specs.Built.{few-keys, length-ends}
+use Rattle.table.specs.Tree.{ends, Ends}
+use Rattle.table.specs.Built.{Built, few-keys, length-ends}
 use Rattle.table.specs.Checked.{count-right, alone-at, tree-is}
-use Rattle.table.specs.Passes.{stepOf, headerOf, schemaFrom, Planted, StoredTree, Kept, StoredSchema, Whole, Blank}
+use Rattle.table.specs.Passes.{stepOf, headerOf, schemaFrom, Planted, StoredTree, Kept, StoredSchema, Leaves, Whole, Beside}
 use Rattle.table.specs.declared.step.Step.{Step}
 use Rattle.table.specs.declared.step.Step.the-variants.{Next, Refused}
 use Rattle.table.proofs.Trees.{by-next, by-refused, bind-ok, bind-refuse, then-ok}
@@ -27,31 +27,20 @@ then-assoc (refuse x y) k f = refl
 
 -- ---- the words that are left
 
-drop-zeros : (k n : ℕ) → drop k (zeros n) ≡ zeros (n - k)
-drop-zeros zero n = let e : n - 0 ≡ n = omega arith in rw e
-drop-zeros (suc k) zero = let e : 0 - suc k ≡ 0 = omega arith in rw e
-drop-zeros (suc k) (suc n) = let e : suc n - suc k ≡ n - k = omega arith in rw e (drop-zeros k n)
-
-sets-zeros : (lent : ℕ) (es : List ℕ) → length es ≤ lent → sets (zeros lent) 0 es ≡ padded lent es
-sets-zeros lent es h = sets-eq es (zeros lent) 0 (omega (arith, length-replicate {A = ℕ} lent 0)) ∙ rw (zero-add, drop-zeros)
-
-blank-by : (lent : ℕ) (es : List ℕ) → length es ≤ 1024 → 1056 ≤ lent → Blank (padded lent es)
-blank-by lent es h s = record {
-  blank = λ key l.
-      let e : 1024 + key ≡ length es + (1024 + key - length es) = omega arith in
-      rw (e, getD-append-add es (zeros (lent - length es)) (1024 + key - length es) 0) (getD-replicate (lent - length es) (1024 + key - length es) 0 0 (omega arith));
-}
+ends-stored : (before work work′ es : List ℕ) → length es ≤ 1024 → 1024 ≤ length before → work ≡ sets before 0 es → Beside work work′ → Ends (λ i. getD work′ i 0) 0 es
+unfolding Ends
+ends-stored before work work′ es h s e b = λ k l. rw zero-add (b .low k (omega arith) ∙ ap (λ (x : List ℕ). getD x k 0) (e ∙ sets-eq es before 0 (omega arith)) ∙ List·getD-append es _ 0 k l)
 
 module _ (t : List ℕ) where
   schema-is : schemaOf t ≡ (headerOf t >>= (λ n. schemaFrom n (nodeAt t)))
   unfolding schemaOf headerOf schemaFrom _>>=_
   schema-is = sym (then-assoc _ _ _ ∙ ap (λ (m : Answer Schema). need (isMarked t) 10 >> m) (then-assoc _ _ _ ∙ ap (λ (m : Answer Schema). need (eqb (u16 t 3) 1) 11 >> m) (then-assoc _ _ _)))
 
-  refuses : {work : List ℕ} {lent x y : ℕ} {r : Step} → r ≡ Refused x y → schemaOf t ≡ refuse x y → Kept work lent r (schemaOf t)
+  refuses : {work : List ℕ} {x y : ℕ} {r : Step} → r ≡ Refused x y → schemaOf t ≡ refuse x y → Kept work r (schemaOf t)
   unfolding stepOf
-  refuses {work} {lent} {x} {y} {r} q e = rw e (record { answer = q; stored = tt })
+  refuses {work} {x} {y} {r} q e = rw e (record { answer = q; stored = tt })
 
-  ends-kept-by : {work : List ℕ} {lent : ℕ} {r : Step} (s : Schema) (m : Answer (Unit {0})) → r ≡ stepOf (λ u. s .count) m → work ≡ padded lent (ends 0 (s .root)) → Kept work lent r (m >> ok s)
+  ends-kept-by : {work : List ℕ} {r : Step} (s : Schema) (m : Answer (Unit {0})) → r ≡ stepOf (λ u. s .count) m → Ends (λ i. getD work i 0) 0 (ends 0 (s .root)) → Kept work r (m >> ok s)
   unfolding stepOf _>>_
   ends-kept-by s (ok u) h q = record { answer = h; stored = q }
   ends-kept-by s (refuse x y) h q = record { answer = h; stored = tt }
@@ -67,7 +56,7 @@ module _ (t : List ℕ) where
       (sym (ok-inj e₃), rw (← ok-inj e₃) (need-true _ 12 0 a₃))
 
   module _ {first : Step} (h : first ≡ stepOf (λ n. n) (headerOf t)) where
-    pub header-refuses : {work : List ℕ} {lent x y : ℕ} → first ≡ Refused x y → Kept work lent first (schemaOf t)
+    pub header-refuses : {work : List ℕ} {x y : ℕ} → first ≡ Refused x y → Kept work first (schemaOf t)
     header-refuses q = refuses q (schema-is ∙ bind-refuse (by-refused _ _ h q) _)
 
     module _ {n : ℕ} (q : first ≡ Next n) where
@@ -83,7 +72,7 @@ module _ (t : List ℕ) where
       -- ---- 13
 
       module _ {second : Step} (h₂ : second ≡ stepOf (λ u. n) (each n (λ i. rightAlone (nodeAt t i)) 13)) where
-        pub alone-refuses : {work : List ℕ} {lent x y : ℕ} → second ≡ Refused x y → Kept work lent second (schemaOf t)
+        pub alone-refuses : {work : List ℕ} {x y : ℕ} → second ≡ Refused x y → Kept work second (schemaOf t)
         unfolding schemaFrom _>>_
         alone-refuses p = refuses p (schema-nodes ∙ simp (by-refused _ _ h₂ p))
 
@@ -94,62 +83,57 @@ module _ (t : List ℕ) where
           -- ---- 14
 
           module _ {before work : List ℕ} {third : Step} (d : Planted before work n third (tree n (nodeAt t))) where
-            pub tree-refuses : {work′ : List ℕ} {lent x y : ℕ} → third ≡ Refused x y → Kept work′ lent third (schemaOf t)
+            pub tree-refuses : {work′ : List ℕ} {x y : ℕ} → third ≡ Refused x y → Kept work′ third (schemaOf t)
             unfolding schemaFrom
             tree-refuses s = refuses s (schema-nodes ∙ then-ok alone-is _ ∙ bind-refuse (by-refused _ _ (d .answer) s) _)
 
-            module _ {lent k : ℕ} (s : third ≡ Next k) (z : before ≡ zeros lent) (l : 16384 ≤ lent) where
-              planted : {P : Type 0} → ((w : Node) → tree n (nodeAt t) ≡ ok w → work ≡ padded lent (ends 0 w) → length (ends 0 w) ≡ n → P) → P
+            module _ {k : ℕ} (s : third ≡ Next k) where
+              planted : {P : Type 0} → ((w : Node) → tree n (nodeAt t) ≡ ok w → Built n (nodeAt t) 32 atRoot 0 n w → work ≡ sets before 0 (ends 0 w) → P) → P
               planted f = by-next _ _ (d .answer) s λ w e u.
-                  let b = tree-is t n (header-right n header-is .1) alone-is w e in
-                  let m : length (ends 0 w) ≡ n = length-ends 0 w ∙ sym (b .past ∙ zero-add _) in
-                  let c = count-is in
-                  let q : work ≡ sets before 0 (ends 0 w) = subst (λ (x : Answer Node). StoredTree before work x) e (d .stored) in
-                  f w e (q ∙ rw (z, sets-zeros lent (ends 0 w) (omega arith))) m
+                  f w e (tree-is t n (header-right n header-is .1) alone-is w e) (subst (λ (x : Answer Node). StoredTree before work x) e (d .stored))
 
-              pub keys-may : Whole t n × Blank work
-              keys-may = planted λ w e q m.
-                  let b = tree-is t n (header-right n header-is .1) alone-is w e in
-                  let c = count-is in (
-                    record {
-                      inside = omega arith;
-                      most = c .1;
-                      keys = λ i h k. few-keys (nodeAt t i) (alone-at t n (header-right n header-is .1) alone-is i h) k;
-                      child = λ i h k. b .blocks i (omega arith) h k;
-                    },
-                    rw q (blank-by lent (ends 0 w) (omega arith) (omega arith)),
-                  )
+              pub keys-may : Whole t n
+              keys-may = planted λ w e b q.
+                  let c = count-is in
+                  record {
+                    inside = omega arith;
+                    most = c .1;
+                    keys = λ i h k. few-keys (nodeAt t i) (alone-at t n (header-right n header-is .1) alone-is i h) k;
+                    child = λ i h k. b .blocks i (omega arith) h k;
+                  }
 
               -- ---- 15
 
-              module _ {r : Step} {work′ : List ℕ} (h₄ : r ≡ stepOf (λ u. n) (each n (λ i. agrees n (nodeAt t) i) 15)) (g : work′ ≡ work) where
-                pub all-kept : Kept work′ lent r (schemaOf t)
+              module _ {r : Step} {work′ : List ℕ} (h₄ : r ≡ stepOf (λ u. n) (each n (λ i. agrees n (nodeAt t) i) 15)) (g : Beside work work′) where
+                pub all-kept : 16384 ≤ length before → Kept work′ r (schemaOf t)
                 unfolding schemaFrom
-                all-kept = planted λ w e q m. rw (schema-nodes ∙ then-ok alone-is _ ∙ bind-ok e _) (ends-kept-by (record { count = n; root = w; held = heldBy n (nodeAt t) }) _ h₄ (g ∙ q))
+                all-kept l = planted λ w e b q.
+                    let m = ends-stored before work work′ (ends 0 w) (omega (arith, length-ends 0 w, b .past, count-is)) (omega arith) q g in
+                    rw (schema-nodes ∙ then-ok alone-is _ ∙ bind-ok e _) (ends-kept-by (record { count = n; root = w; held = heldBy n (nodeAt t) }) _ h₄ m)
 
 -- ---- the answers of the check
 
 -- both numbers, and the words
 abbrev pub Answered : ℕ → ℕ → List ℕ → ℕ → List ℕ → Type 0
-Answered x y work lent t = (x ≡ number (check lent t)) × ((y ≡ second (λ s. s .count) (check lent t)) × (work ≡ output (λ s. ends 0 (s .root)) lent (check lent t)))
+Answered x y work lent t = (x ≡ number (check lent t)) × ((y ≡ second (λ s. s .count) (check lent t)) × Leaves work lent (check lent t))
 
 module _ (t : List ℕ) (lent : ℕ) where
   refused-by : {x y : ℕ} {work : List ℕ} → check lent t ≡ refuse x y → work ≡ zeros lent → Answered x y work lent t
-  unfolding number second output
+  unfolding number second
   refused-by e z = rw e (refl, (refl, z))
 
   pub short : {work : List ℕ} → lent < 16384 → work ≡ zeros lent → Answered 1 0 work lent t
   unfolding check needAt _>>_
   short h z = refused-by (simp (lt-leb _ _ h)) z
 
-  module _ {work : List ℕ} {r : Step} {words : ℕ} (same : words ≡ lent) (h : 16384 ≤ words) (d : Kept work words r (schemaOf t)) where
+  module _ {work : List ℕ} {r : Step} (h : 16384 ≤ lent) (d : Kept work r (schemaOf t)) where
     check-is : check lent t ≡ schemaOf t
     unfolding check needAt _>>_
-    check-is = let l : 16384 ≤ lent = omega arith in simp (le-leb _ _ l)
+    check-is = simp (le-leb _ _ h)
 
     pub refused : {x y : ℕ} {work′ : List ℕ} → r ≡ Refused x y → work′ ≡ zeros lent → Answered x y work′ lent t
     refused q z = refused-by (check-is ∙ by-refused _ _ (d .answer) q) z
 
     pub accepted : {n : ℕ} → r ≡ Next n → Answered 0 n work lent t
-    unfolding number second output
-    accepted q = by-next _ _ (d .answer) q λ s e u. rw (check-is ∙ e, ← u, ← same) (refl, (refl, subst (λ (m : Answer Schema). StoredSchema work words m) e (d .stored)))
+    unfolding number second
+    accepted q = by-next _ _ (d .answer) q λ s e u. rw (check-is ∙ e, ← u) (refl, (refl, subst (λ (m : Answer Schema). StoredSchema work m) e (d .stored)))

@@ -5,13 +5,13 @@ use mathlib.Core.List.{List, _++_}
 use Prim.Native.Nat.{ℕ, zero, suc, _+_, _-_, _<_, _≤_}
 use native.Mathlib.Omega.{arith}
 use lib.Dec.{eqb}
-use lib.ListN.{length, getD, take, drop, set, length-set, length-drop, length-replicate, getD-replicate, take-append-drop}
-use lib.Seq.{length-take-le, getD-set-same, getD-set-other, getD-take, getD-drop, ext-getD}
+use lib.ListN.{length, getD, take, drop, set, length-set, length-append, length-drop, length-replicate, getD-replicate, List·getD-append}
+use lib.Seq.{length-take-le, getD-set-same, getD-set-other, getD-take, getD-append-add}
 use borrow.Author.Tests.{eq-eqb, ne-eqb, eqb-true, eqb-false}
 use Rattle.format.specs.Answer.{zeros}
 use Rattle.format.specs.Table.{TableNode, BLOCK, firstFrom, isBlockOf, firstBlock, alike, agrees}
 use Rattle.table.specs.Cases.{by-lt}
-use Rattle.table.specs.Passes.{First, Note, noteIn, Notes, firstOf, Blank, Beside}
+use Rattle.table.specs.Passes.{First, Note, noteIn, Notes, firstOf, Beside}
 
 -- ---- a note, for any test
 
@@ -113,17 +113,13 @@ module _ (n : ℕ) (at : ℕ → TableNode) (i : ℕ) where
 -- ---- the words beside the notes
 
 pub beside-self : (l : List ℕ) → Beside l l
-beside-self l = record { size = refl; low = λ k h. refl; high = λ k h. refl }
+beside-self l = record { size = refl; low = λ k h. refl }
 
 pub beside-then : {l l₁ l₂ : List ℕ} → Beside l l₁ → Beside l₁ l₂ → Beside l l₂
-beside-then a b = record { size = b .size ∙ a .size; low = λ k h. b .low k h ∙ a .low k h; high = λ k h. b .high k h ∙ a .high k h }
+beside-then a b = record { size = b .size ∙ a .size; low = λ k h. b .low k h ∙ a .low k h }
 
 pub beside-note : (l : List ℕ) (key x : ℕ) → key < 32 → Beside l (set l (1024 + key) x)
-beside-note l key x h = record {
-  size = length-set l (1024 + key) x;
-  low = λ k m. getD-set-other l (1024 + key) k x 0 (λ e. omega arith);
-  high = λ k m. getD-set-other l (1024 + key) k x 0 (λ e. omega arith);
-}
+beside-note l key x h = record { size = length-set l (1024 + key) x; low = λ k m. getD-set-other l (1024 + key) k x 0 (λ e. omega arith) }
 
 -- ---- node i, a BLOCK, against the first of its key
 
@@ -134,40 +130,33 @@ noted n at i work work′ key f h m s l k e q w = (
   (rw (w, q) (notes-noted n at i work h key l k e s), rw w (beside-note work key (f + 1) l)),
 )
 
-pub notes-blank : (n : ℕ) (at : ℕ → TableNode) (work : List ℕ) → Blank work → Notes n at 0 work
-notes-blank n at work b = record { note = λ key l. rw (b .blank key l) (record { none = λ z k h. absurd (omega arith); some = λ f e. absurd (omega arith); within = omega arith }) }
+-- ---- the notes are zeroed before the first node
 
--- ---- the notes are 0 again, and so the work is what it was
+module _ (xs ys : List ℕ) (s : 1056 ≤ length xs) (e : ys ≡ zeros (length (take 32 (drop 1024 xs)))) where
+  abbrev cleared : List ℕ
+  cleared = take 1024 xs ++ (ys ++ drop 32 (drop 1024 xs))
 
-pub restored : (before xs ys : List ℕ) → 1056 ≤ length before → Beside before xs → Blank before → ys ≡ zeros (length (take 32 (drop 1024 xs))) → take 1024 xs ++ (ys ++ drop 32 (drop 1024 xs)) ≡ before
-restored before xs ys s b z e =
-    rw (low, e, mid, high) (ap (λ (l : List ℕ). take 1024 before ++ l) (take-append-drop 32 (drop 1024 before)) ∙ take-append-drop 1024 before)
-  where
-    front : (l : List ℕ) → 1056 ≤ length l → length (take 1024 l) ≡ 1024
-    front l h = length-take-le 1024 l (omega arith)
+  front : length (take 1024 xs) ≡ 1024
+  front = length-take-le 1024 xs (omega arith)
 
-    part : (l : List ℕ) → 1056 ≤ length l → length (take 32 (drop 1024 l)) ≡ 32
-    part l h = length-take-le 32 (drop 1024 l) (omega (arith, length-drop 1024 l))
+  part : length (take 32 (drop 1024 xs)) ≡ 32
+  part = length-take-le 32 (drop 1024 xs) (omega (arith, length-drop 1024 xs))
 
-    s′ : 1056 ≤ length xs
-    s′ = omega (arith, b .size)
+  sized : length cleared ≡ length xs
+  sized =
+      let a = length-append (take 1024 xs) (ys ++ drop 32 (drop 1024 xs)) in
+      let b = length-append ys (drop 32 (drop 1024 xs)) in
+      let c = length-drop 32 (drop 1024 xs) in
+      omega (arith, a, b, c, length-drop 1024 xs, front, part, ap length e, length-replicate {A = ℕ} (length (take 32 (drop 1024 xs))) 0)
 
-    low : take 1024 xs ≡ take 1024 before
-    low = ext-getD 0 _ _ (front xs s′ ∙ sym (front before s)) (λ i h.
-        let m : i < 1024 = omega (arith, front xs s′) in
-        getD-take 1024 xs i 0 m ∙ b .low i m ∙ sym (getD-take 1024 before i 0 m))
+  pub cleared-beside : Beside xs cleared
+  cleared-beside = record { size = sized; low = λ k h. List·getD-append (take 1024 xs) _ 0 k (omega (arith, front)) ∙ getD-take 1024 xs k 0 h }
 
-    mid : zeros (length (take 32 (drop 1024 xs))) ≡ take 32 (drop 1024 before)
-    mid = ext-getD 0 _ _ (length-replicate _ 0 ∙ part xs s′ ∙ sym (part before s)) (λ i h.
-        let l : i < length (take 32 (drop 1024 xs)) = omega (arith, length-replicate {A = ℕ} (length (take 32 (drop 1024 xs))) 0) in
-        let m : i < 32 = omega (arith, part xs s′) in
-        getD-replicate _ i 0 0 l ∙ sym (getD-take 32 (drop 1024 before) i 0 m ∙ getD-drop 1024 before i 0 ∙ z .blank i m))
+  note-cleared : (key : ℕ) → key < 32 → noteIn cleared key ≡ 0
+  note-cleared key h =
+      let a : 1024 + key ≡ length (take 1024 xs) + key = omega (arith, front) in
+      let b : key < length ys = omega (arith, ap length e, length-replicate {A = ℕ} (length (take 32 (drop 1024 xs))) 0, part) in
+      ap (λ (k : ℕ). getD cleared k 0) a ∙ getD-append-add (take 1024 xs) _ key 0 ∙ List·getD-append ys _ 0 key b ∙ rw (e, part) (getD-replicate 32 key 0 0 h)
 
-    at-high : (l : List ℕ) (i : ℕ) → getD (drop 32 (drop 1024 l)) i 0 ≡ getD l (1024 + (32 + i)) 0
-    at-high l i = getD-drop 32 (drop 1024 l) i 0 ∙ getD-drop 1024 l (32 + i) 0
-
-    size-high : (l : List ℕ) → length (drop 32 (drop 1024 l)) ≡ length l - 1024 - 32
-    size-high l = simp length-drop
-
-    high : drop 32 (drop 1024 xs) ≡ drop 32 (drop 1024 before)
-    high = ext-getD 0 _ _ (size-high xs ∙ ap (λ (k : ℕ). k - 1024 - 32) (b .size) ∙ sym (size-high before)) (λ i h. at-high xs i ∙ b .high (1024 + (32 + i)) (omega arith) ∙ sym (at-high before i))
+  pub notes-cleared : (n : ℕ) (at : ℕ → TableNode) → Notes n at 0 cleared
+  notes-cleared n at = record { note = λ key l. rw (note-cleared key l) (record { none = λ z k h. absurd (omega arith); some = λ f e. absurd (omega arith); within = omega arith }) }

@@ -6,9 +6,9 @@ use Prim.Native.Nat.{ℕ, zero, suc, _+_, _*_, _/_, _%_, _<_, _≤_}
 use native.Mathlib.Nat.{zero-add}
 use native.Mathlib.Omega.{arith}
 use lib.Dec.{leb, eqb}
-use lib.ListN.{length, getD, List·getD-append}
+use lib.ListN.{length}
 use borrow.Author.Tests.{leb-true, eqb-true}
-use Rattle.format.specs.Answer.{ok, need, needAt, padded, output}
+use Rattle.format.specs.Answer.{ok, need, needAt}
 use Rattle.format.specs.Table.{boolean, array, fields, block, plain, nullable, u16, TableNode, nodeAt, BLOCK, deduplicate, rightAlone, atRoot, Node, Held, Schema, leafOf, each, build, tree, firstBlock, heldBy, alike, agrees, isMarked, rightCount, schemaOf, check}
 use Rattle.format.specs.Read.{nodesOf, wireNodes}
 use Rattle.table.specs.Cases.{by-lt, ok-inj, bind-elim, then-elim, need-true}
@@ -103,16 +103,6 @@ module _ (table : List ℕ) where
 pub check-accepts : (work : ℕ) (table : List ℕ) (s : Schema) → check work table ≡ ok s → (16384 ≤ work) × (schemaOf table ≡ ok s)
 unfolding check
 check-accepts work table s e = then-elim (need (leb 16384 work) 1) _ e λ a b. (leb-true 16384 work (need-true _ 1 0 a), b)
-
--- The words that the check keeps are where the subtrees end.
-pub ends-kept : (lent : ℕ) (work es : List ℕ) → work ≡ padded lent es → Ends (λ i. getD work i 0) 0 es
-unfolding Ends
-ends-kept lent work es e = λ k h. rw (zero-add, e) (List·getD-append es _ 0 k h)
-
--- What `check_keeping` leaves in the work, for a walk that looks the ends up there.
-pub kept-has : (lent : ℕ) (table work : List ℕ) (s : Schema) → check lent table ≡ ok s → work ≡ output (λ x. ends 0 (x .root)) lent (check lent table) → Has (s .count) (nodeAt table) (λ i. getD work i 0) (s .held) 0 (s .root)
-unfolding output
-kept-has lent table work s e k = checked table s (check-accepts lent table s e .1) .has _ (ends-kept lent work (ends 0 (s .root)) (rw e at k))
 
 -- A value's own nodes are among those of its longest path: a walk that has room for the path never answers 33.
 pub nodes-deep : (w : Node) → nodesOf w ≤ depth w

@@ -6,9 +6,9 @@ use Prim.Native.Nat.{ℕ, _+_, _-_, _*_, _<_, _≤_}
 use lib.Dec.{leb, eqb}
 use lib.ListN.{length, getD}
 use lib.Seq.{sets}
-use Rattle.format.specs.Answer.{Answer, ok, refuse, _>>=_, _>>_, need, padded}
+use Rattle.format.specs.Answer.{Answer, ok, refuse, _>>=_, _>>_, need, zeros}
 use Rattle.format.specs.Table.{u16, TableNode, nodeAt, BLOCK, Context, atRoot, inRecord, inArray, inNullable, inBlock, Node, Schema, isMarked, rightCount, rightAlone, each, tree, agrees, heldBy, isBlockOf}
-use Rattle.table.specs.Tree.{ends}
+use Rattle.table.specs.Tree.{ends, Ends}
 use Rattle.table.specs.declared.step.Step.{Step}
 use Rattle.table.specs.declared.step.Step.the-variants.{Next, Refused}
 use Rattle.table.specs.declared.tree.Parent.{Parent}
@@ -63,14 +63,19 @@ pub record Planted (before now : List ℕ) (n : ℕ) (r : Step) (built : Answer 
   pub answer : r ≡ stepOf (λ w. n) built
   pub stored : StoredTree before now built
 
--- the same of all passes, over work that was zeros
-abbrev pub StoredSchema : List ℕ → ℕ → Answer Schema → Type 0
-StoredSchema now lent (ok s) = now ≡ padded lent (ends 0 (s .root))
-StoredSchema now lent (refuse r i) = Unit {0}
+-- the same of all passes: the words of the nodes are the ends, and nothing is said of the other words
+abbrev pub StoredSchema : List ℕ → Answer Schema → Type 0
+StoredSchema now (ok s) = Ends (λ i. getD now i 0) 0 (ends 0 (s .root))
+StoredSchema now (refuse r i) = Unit {0}
 
-pub record Kept (now : List ℕ) (lent : ℕ) (r : Step) (schema : Answer Schema) : Type 0 where
+pub record Kept (now : List ℕ) (r : Step) (schema : Answer Schema) : Type 0 where
   pub answer : r ≡ stepOf (λ s. s .count) schema
-  pub stored : StoredSchema now lent schema
+  pub stored : StoredSchema now schema
+
+-- what the check leaves in so many lent words, for a walk over the table
+abbrev pub Leaves : List ℕ → ℕ → Answer Schema → Type 0
+Leaves now lent (ok s) = Ends (λ i. getD now i 0) 0 (ends 0 (s .root))
+Leaves now lent (refuse r i) = now ≡ zeros lent
 
 -- What 13 and 14 have shown of a table's nodes before 15 looks at the keys.
 pub record Whole (table : List ℕ) (n : ℕ) : Type 0 where
@@ -97,12 +102,7 @@ pub record Notes (n : ℕ) (at : ℕ → TableNode) (i : ℕ) (work : List ℕ) 
 unfoldable pub firstOf : ℕ → ℕ → ℕ
 firstOf note i = cond (eqb note 0) i (note - 1)
 
--- no key has a note
-pub record Blank (work : List ℕ) : Type 0 where
-  pub blank : (key : ℕ) → key < 32 → noteIn work key ≡ 0
-
--- only notes have changed
+-- the words beside the notes, which are the ends, have not changed
 pub record Beside (before now : List ℕ) : Type 0 where
   pub size : length now ≡ length before
   pub low : (k : ℕ) → k < 1024 → getD now k 0 ≡ getD before k 0
-  pub high : (k : ℕ) → 1056 ≤ k → getD now k 0 ≡ getD before k 0

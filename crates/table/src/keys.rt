@@ -3,7 +3,7 @@ ghost use mathlib.Core.Path.{_≡_};
 ghost use Prim.Native.Nat.{_+_, _*_, _-_, _≤_, _<_};
 ghost use lib.ListN.{length, getD, set};
 ghost use Rattle.format.specs.Table.{nodeAt, alike, agrees, each};
-ghost use Rattle.table.specs.Passes.{stepOf, firstOf, Whole, Notes, Beside, Blank};
+ghost use Rattle.table.specs.Passes.{stepOf, firstOf, Whole, Notes, Beside};
 use super::nodes;
 use super::step::Step;
 use super::words;
@@ -78,13 +78,12 @@ fn agree_all(table: &[u8], work: &mut [u32], n: usize) -> Step
     Step::Next(n)
 }
 
-// The pass; the notes are 0 before it and after.
+// The pass; the notes are 0 when it begins.
 pub fn keys(table: &[u8], work: &mut [u32], n: usize) -> Step
-    requires { ⌜ Whole (now table) n × (1056 ≤ length (now work)) × Blank (now work) ⌝ }
+    requires { ⌜ Whole (now table) n × (1056 ≤ length (now work)) ⌝ }
     ensures { λ r. ⌜ r ≡ stepOf (λ u. n) (each n (agrees n (nodeAt (now (table .entry)))) 15) ⌝ }
-    ensures { λ _. ⌜ now (work .exit) ≡ now (work .entry) ⌝ }
+    ensures { λ _. ⌜ Beside (now (work .entry)) (now (work .exit)) ⌝ }
 {
-    let r = agree_all(table, work, n);
     zero::zero_words(&mut work[NOTES..NOTES_END]);
-    r
+    agree_all(table, work, n)
 }

@@ -2,10 +2,9 @@
 ghost use mathlib.Core.Path.{_≡_};
 ghost use Prim.Native.Nat.{_≤_};
 ghost use lib.ListN.{length};
-ghost use Rattle.format.specs.Answer.{number, second, output, zeros};
+ghost use Rattle.format.specs.Answer.{number, second, zeros};
 ghost use Rattle.format.specs.Table.{check, schemaOf};
-ghost use Rattle.table.specs.Tree.{ends};
-ghost use Rattle.table.specs.Passes.{Kept};
+ghost use Rattle.table.specs.Passes.{Kept, Leaves};
 
 mod alone;
 mod header;
@@ -26,8 +25,8 @@ pub struct Answer {
 
 // 10 to 15, each over all nodes before the next.
 fn passes(table: &[u8], work: &mut [u32]) -> Step
-    requires { ⌜ (16384 ≤ length (now work)) × (now work ≡ zeros (length (now work))) ⌝ }
-    ensures { λ r. ⌜ Kept (now (work .exit)) (length (now (work .entry))) r (schemaOf (now (table .entry))) ⌝ }
+    requires { ⌜ 16384 ≤ length (now work) ⌝ }
+    ensures { λ r. ⌜ Kept (now (work .exit)) r (schemaOf (now (table .entry))) ⌝ }
 {
     let first = header::header(table);
     let Step::Next(n) = first else {
@@ -45,14 +44,14 @@ fn passes(table: &[u8], work: &mut [u32]) -> Step
 }
 
 // The check that a walk over the table begins with. On success word i is the node after all below node i, for each
-// node, and the other words are 0; after a refusal all are.
+// node, and nothing is said of the other words; after a refusal all are 0.
 pub fn check_keeping(table: &[u8], work: &mut [u32]) -> Answer
     ensures { λ r. ⌜ r .number ≡ number (check (length (now (work .entry))) (now (table .entry))) ⌝ }
     ensures { λ r. ⌜ r .second ≡ second (λ s. s .count) (check (length (now (work .entry))) (now (table .entry))) ⌝ }
-    ensures { λ r. ⌜ now (work .exit) ≡ output (λ s. ends 0 (s .root)) (length (now (work .entry))) (check (length (now (work .entry))) (now (table .entry))) ⌝ }
+    ensures { λ _. ⌜ Leaves (now (work .exit)) (length (now (work .entry))) (check (length (now (work .entry))) (now (table .entry))) ⌝ }
 {
-    zero::zero_words(work);
     if work.len() < WORK_WORDS {
+        zero::zero_words(work);
         return Answer {
             number: 1,
             second: 0,
@@ -78,6 +77,9 @@ pub fn check(table: &[u8], work: &mut [u32]) -> Answer
     ensures { λ r. ⌜ now (work .exit) ≡ zeros (length (now (work .entry))) ⌝ }
 {
     let r = check_keeping(table, work);
+    if r.number != 0 {
+        return r;
+    }
     zero::zero_words(work);
     r
 }

@@ -1,16 +1,17 @@
 -- What is known of a checked table at its root, and that the check leaves the work so.
-use mathlib.Core.Path.{_≡_, refl, _∙_, subst₂}
+use mathlib.Core.Path.{_≡_, refl, _∙_, subst, subst₂}
 use mathlib.Core.List.{List}
 use Prim.Native.Nat.{ℕ, _+_, _<_, _≤_}
 use native.Mathlib.Omega.{arith}
 use lib.Dec.{eqb}
 use lib.ListN.{length}
-use Rattle.format.specs.Answer.{Answer, ok, _>>=_, need, number, output}
+use Rattle.format.specs.Answer.{Answer, ok, _>>=_, need, number}
 use Rattle.format.specs.Table.{u16, nodeAt, rightAlone, each, tree, agrees, isMarked, rightCount, Held, Schema, schemaOf, check}
 use Rattle.table.specs.Cases.{ok-inj, bind-elim, then-elim}
-use Rattle.table.specs.Tree.{depth, ends, Ends, Has}
+use Rattle.table.specs.Tree.{depth, Ends, Has}
+use Rattle.table.specs.Passes.{Leaves}
 use Rattle.table.specs.Built.{length-ends}
-use Rattle.table.specs.Checked.{Checked, checked, check-accepts, ends-kept}
+use Rattle.table.specs.Checked.{Checked, checked, check-accepts}
 use Rattle.table.specs.Refusals.{by-ok, numbered-check}
 use Rattle.store.specs.Words.{word}
 use Rattle.typed.specs.Typed.{Sized, heldIn, IsNode, FitsNode, Kept}
@@ -57,11 +58,10 @@ module _ {table work : List ℕ} (k : Kept table work) where
 
 -- the check answers 0
 module _ (table : List ℕ) (lent : ℕ) (e : number (check lent table) ≡ 0) where
-  pub check-keeps : {work : List ℕ} → length work ≡ lent → work ≡ output (λ s. ends 0 (s .root)) lent (check lent table) → Kept table work
-  unfolding output
+  pub check-keeps : {work : List ℕ} → length work ≡ lent → Leaves work lent (check lent table) → Kept table work
   check-keeps {work} h d = by-ok (check lent table) (numbered-check lent table) e (λ s q.
       let a = check-accepts lent table s q in
-      record { schema = s; checks = a .1; whole = rw h (a .0); keeps = ends-kept lent work (ends 0 (s .root)) (d ∙ rw q refl) })
+      record { schema = s; checks = a .1; whole = rw h (a .0); keeps = subst (λ (m : Answer Schema). Leaves work lent m) q d })
 
   -- what follows it then
   pub check-then : {X : Type 0} (f : Schema → Answer X) → (schemaOf table >>= f) ≡ (check lent table >>= f)

@@ -7,8 +7,8 @@ use Rattle.format.specs.Answer.{Answer, refuse, _>>=_, number, second, output, 
 use Rattle.format.specs.Label.{Bytes}
 use Rattle.format.specs.Table.{check}
 use Rattle.format.specs.Write.{writeChecked, write}
-use Rattle.table.specs.Tree.{ends}
-use Rattle.table.specs.Refusals.{refusal-is}
+use Rattle.table.specs.Passes.{Leaves}
+use Rattle.table.specs.Refusals.{refusal-is, refused-zeros}
 use Rattle.theory.specs.Facts.{refuse-bind}
 use Rattle.typed.specs.Root.{check-then}
 use Rattle.writer.specs.Writer.{messageIn}
@@ -16,10 +16,6 @@ use Rattle.writer.specs.Demands as demands
 use Rattle.writer.proofs.Demanded.{answered, accepted, trips, short, roomless, rewritten}
 
 module _ (work : ℕ) (table : List ℕ) where
-  -- the work as the check has kept it
-  abbrev kept : List ℕ
-  kept = output (λ s. ends 0 (s .root)) work (check work table)
-
   write-message : number (check work table) ≡ 0 → (modes : ℕ) (ws pool : List ℕ) (lent : ℕ) → write work table modes ws pool lent ≡ messageIn table modes ws pool lent
   unfolding write messageIn
   write-message z modes ws pool lent = sym (check-then table work z (λ s. writeChecked s modes ws pool lent))
@@ -31,10 +27,6 @@ module _ (work : ℕ) (table : List ℕ) where
     write-refused : (modes : ℕ) (ws pool : List ℕ) (lent : ℕ) → write work table modes ws pool lent ≡ refuse (number (check work table)) (second (λ s. s .count) (check work table))
     unfolding write
     write-refused modes ws pool lent = ap (λ c. c >>= (λ s. writeChecked s modes ws pool lent)) refused ∙ refuse-bind _ _ _
-
-    work-refused : {w : List ℕ} → w ≡ kept → w ≡ zeros work
-    unfolding output
-    work-refused e = e ∙ ap (λ c. output (λ t. ends 0 (t .root)) work c) refused
 
 -- ---- all that is promised
 
@@ -73,11 +65,11 @@ module _ (work : ℕ) (table : List ℕ) (modes : ℕ) (ws pool : List ℕ) (len
   )
 
   -- the table is refused
-  pub promise-refused : Bytes pool → (number (check work table) ≡ 0 → ⊥) → n ≡ number (check work table) → k ≡ second (λ s. s .count) (check work table) → out ≡ zeros lent → w ≡ kept work table → Promise
+  pub promise-refused : Bytes pool → (number (check work table) ≡ 0 → ⊥) → n ≡ number (check work table) → k ≡ second (λ s. s .count) (check work table) → out ≡ zeros lent → Leaves w work (check work table) → Promise
   unfolding number second output
   promise-refused b z x y o e =
       let q = write-refused work table z modes ws pool lent in
-      promised b (x ∙ sym (ap (λ a. number a) q)) (y ∙ sym (ap (λ a. second (λ m. length m) a) q)) (o ∙ sym (ap (λ a. output (λ m. m) lent a) q)) (work-refused work table z e)
+      promised b (x ∙ sym (ap (λ a. number a) q)) (y ∙ sym (ap (λ a. second (λ m. length m) a) q)) (o ∙ sym (ap (λ a. output (λ m. m) lent a) q)) (refused-zeros work table z e)
 
   -- it is not, and the message or its refusal is the answer
   pub promise-made : Bytes pool → number (check work table) ≡ 0 → n ≡ number (messageIn table modes ws pool lent) → k ≡ second (λ m. length m) (messageIn table modes ws pool lent)

@@ -1,6 +1,6 @@
 -- `table::check_keeping` meets its contract.
 use native.Mathlib.Omega.{arith}
-use mathlib.Core.Path.{sym, ap, _∙_}
+use mathlib.Core.Path.{ap, _∙_}
 use denote.Ref.{now}
 use lib.ListN.{length}
 use Rattle.format.specs.Answer.{zeros}
@@ -17,16 +17,13 @@ same-length c = search needs
 
 returns : tie.Need-returns
 returns c =
-    let c3 = c .before .before .before in
-    let c7 = c3 .before .before .before .before in
-    let a = c7 .args in
-    short (now (a .table)) (length (now (a .work))) (omega (arith, c .if1 .taken, c3 .zero-words .kept .0)) (c3 .zero-words .ensures)
+    let c2 = c .before .before in
+    let c4 = c2 .before .before in
+    let a = c4 .before .before .before .args in
+    short (now (a .table)) (length (now (a .work))) (c4 .if1 .taken) (c2 .zero-words .ensures)
 
 passes-requires : tie.Need-passes-requires
-passes-requires c κs =
-    let c1 = c .before in
-    let c4 = c1 .before .before .before in
-    (c1 .if1 .left, c4 .zero-words .ensures ∙ ap zeros (sym (c4 .zero-words .kept .0)))
+passes-requires c κs = search needs
 
 enum-known-r : tie.Need-enum-known-r
 enum-known-r c = search needs
@@ -46,10 +43,8 @@ returns-2 c =
     let c5 = c2 .before .before .before in
     let c9 = c5 .before .before .before .before in
     let c11 = c9 .before .before in
-    let c14 = c11 .before .before .before in
-    let c18 = c14 .before .before .before .before in
-    let a = c18 .args in
-    refused (now (a .table)) (length (now (a .work))) (c14 .zero-words .kept .0) (c11 .if1 .left) (c9 .passes .ensures) (c5 .r .given .1) (c2 .zero-words2 .ensures ∙ ap zeros (c9 .passes .kept .1 .0 ∙ c14 .zero-words .kept .0))
+    let a = c11 .before .before .before .args in
+    refused (now (a .table)) (length (now (a .work))) (c11 .if1 .left) (c9 .passes .ensures) (c5 .r .given .1) (c2 .zero-words2 .ensures ∙ ap zeros (c9 .passes .kept .1 .0))
 
 same-length-3 : tie.Need-same-length-3
 same-length-3 c = search needs
@@ -59,10 +54,8 @@ returns-3 c =
     let c1 = c .before in
     let c5 = c1 .before .before .before .before in
     let c7 = c5 .before .before in
-    let c10 = c7 .before .before .before in
-    let c14 = c10 .before .before .before .before in
-    let a = c14 .args in
-    accepted (now (a .table)) (length (now (a .work))) (c10 .zero-words .kept .0) (c7 .if1 .left) (c5 .passes .ensures) (c1 .r2 .given .1)
+    let a = c7 .before .before .before .args in
+    accepted (now (a .table)) (length (now (a .work))) (c7 .if1 .left) (c5 .passes .ensures) (c1 .r2 .given .1)
 
 pub check-keeping-spec : {M : Type 1} → statement M
 check-keeping-spec =

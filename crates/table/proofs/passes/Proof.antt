@@ -44,7 +44,7 @@ tree-requires c κs =
     let c5 = c .before .before .before .before .before in
     let c7 = c5 .before .before in
     let c10 = c7 .before .before .before in
-    omega (arith, count-is (now (c10 .args .table)) (c7 .header .ensures) (c5 .first .given .1), c10 .pre .0)
+    omega (arith, count-is (now (c10 .args .table)) (c7 .header .ensures) (c5 .first .given .1), c10 .pre)
 
 enum-told-4 : tie.Need-enum-told-4
 enum-told-4 c = search needs
@@ -74,7 +74,7 @@ keys-requires c κs =
     let c11 = c9 .before .before in
     let c13 = c11 .before .before in
     let c16 = c13 .before .before .before in
-    let x = keys-may (now (c16 .args .table)) (c13 .header .ensures) (c11 .first .given .1) (c9 .alone .ensures) (c7 .enum-told2 .given .1) (c5 .tree .ensures) (c1 .enum-told4 .given .1) (c16 .pre .1) (c16 .pre .0) in (x .0, omega (arith, c5 .tree .kept .1 .0, c16 .pre .0), x .1)
+    (keys-may (now (c16 .args .table)) (c13 .header .ensures) (c11 .first .given .1) (c9 .alone .ensures) (c7 .enum-told2 .given .1) (c5 .tree .ensures) (c1 .enum-told4 .given .1), omega (arith, c5 .tree .kept .1 .0, c16 .pre))
 
 same-length-2 : tie.Need-same-length-2
 same-length-2 c = search needs
@@ -89,7 +89,7 @@ returns-4 c =
     let c14 = c12 .before .before in
     let c16 = c14 .before .before in
     let c19 = c16 .before .before .before in
-    all-kept (now (c19 .args .table)) (c16 .header .ensures) (c14 .first .given .1) (c12 .alone .ensures) (c10 .enum-told2 .given .1) (c8 .tree .ensures) (c4 .enum-told4 .given .1) (c19 .pre .1) (c19 .pre .0) (c2 .keys .ensures .0) (c2 .keys .ensures .1)
+    all-kept (now (c19 .args .table)) (c16 .header .ensures) (c14 .first .given .1) (c12 .alone .ensures) (c10 .enum-told2 .given .1) (c8 .tree .ensures) (c4 .enum-told4 .given .1) (c2 .keys .ensures .0) (c2 .keys .ensures .1) (c19 .pre)
 
 pub passes-spec : {M : Type 1} → statement M
 passes-spec =
