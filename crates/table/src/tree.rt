@@ -125,7 +125,8 @@ fn node(table: &[u8], work: &mut [u32], n: usize, path: usize, parent: Parent, i
         return r;
     };
     work[i] = j as u32;
-    r
+    // made anew: a copy would copy the bytes behind the answer's tag too, which takes longer
+    Step::Next(j)
 }
 
 // What is below node i; then the node after it.
