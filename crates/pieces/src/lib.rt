@@ -50,9 +50,7 @@ pub fn read_header(b: u8) -> Header
 fn piece_at(m: &[u8], at: usize) -> Given
     ensures { λ r. ⌜ PieceIs (now (m .entry)) at r ⌝ }
 {
-    let end = m.len();
-    let c = Cursor { at, end };
-    let Label::Got(n, next) = c.label(m) else {
+    let Label::Got(n, next) = piece::label_at(m, at) else {
         return Given::Nothing;
     };
     if n < 0 {
@@ -60,7 +58,7 @@ fn piece_at(m: &[u8], at: usize) -> Given
     }
     let start = next.at;
     let size = n as usize;
-    if end - start < size {
+    if piece::left_at(m, start) < size {
         return Given::Nothing;
     }
     Given::Block(Cursor {

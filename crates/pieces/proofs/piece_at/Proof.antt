@@ -14,8 +14,8 @@ use Rattle.pieces.proofs.At.{at-bad, at-inside, at-below, at-cast, at-l
 use Rattle.pieces.proofs.piece_at.Statement.{statement}
 use Rattle.pieces.proofs.piece_at.Tie as tie
 
-label-requires : tie.Need-label-requires
-label-requires c κs = search needs
+label-at-requires : tie.Need-label-at-requires
+label-at-requires c κs = search needs
 
 enum-known-n : tie.Need-enum-known-n
 enum-known-n c = search needs
@@ -26,7 +26,7 @@ enum-told c = search needs
 returns : tie.Need-returns
 returns c =
     let a = c .before .before .before .before .args in
-    at-bad (now (a .m)) (a .at) (sym (c .before .before .label .ensures) ∙ c .enum-told .given .1)
+    at-bad (now (a .m)) (a .at) (sym (c .before .before .label-at .ensures) ∙ c .enum-told .given .1)
 
 module _ (a : tie.After-n) where
   abbrev bytes : List ℕ
@@ -42,7 +42,7 @@ module _ (a : tie.After-n) where
   behind = a .n .given .0 .1 .0
 
   got : labelAt bytes (cursor from (length bytes)) ≡ Got size behind
-  got = sym (a .before .before .label .ensures) ∙ a .n .given .1
+  got = sym (a .before .before .label-at .ensures) ∙ a .n .given .1
 
 returns-2 : tie.Need-returns-2
 returns-2 c =
@@ -54,35 +54,33 @@ cast-size c =
     let a = c .before .before in
     at-cast (bytes a) (from a) (size a) (behind a) (got a) (c .if1 .left)
 
-sub-if2 : tie.Need-sub-if2
-sub-if2 c =
-    let a = c .before .before in
-    omega (arith, at-inside (bytes a) (from a) (size a) (behind a) (got a))
+left-at-requires : tie.Need-left-at-requires
+left-at-requires c κs = search needs
 
 returns-3 : tie.Need-returns-3
 returns-3 c =
-    let a = c .before .before .before in
-    at-long (bytes a) (from a) (size a) (behind a) (got a) (c .before .if1 .left) (omega arith)
+    let a = c .before .before .before .before in
+    at-long (bytes a) (from a) (size a) (behind a) (got a) (c .before .before .if1 .left) (omega arith)
 
-add-t11 : tie.Need-add-t11
-add-t11 c = search needs
+add-t9 : tie.Need-add-t9
+add-t9 c = search needs
 
 returns-4 : tie.Need-returns-4
 returns-4 c =
-    let a = c .before .before .before in
-    at-piece (bytes a) (from a) (size a) (behind a) (got a) (c .before .if1 .left) (omega arith)
+    let a = c .before .before .before .before in
+    at-piece (bytes a) (from a) (size a) (behind a) (got a) (c .before .before .if1 .left) (omega arith)
 
 pub piece-at-spec : {M : Type 1} → statement M
 piece-at-spec =
     tie.close
     (tie.spec
-    label-requires
+    label-at-requires
     enum-known-n
     enum-told
     returns
     returns-2
     cast-size
-    sub-if2
+    left-at-requires
     returns-3
-    add-t11
+    add-t9
     returns-4)
