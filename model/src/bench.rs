@@ -1,260 +1,265 @@
-//! Times of the model and, where linked, of the library, side by side.
+//! Times of the model and, where linked, of the library, side by side, in tables.
 
-use std::time::Instant;
+use std::hint::black_box;
 
-use crate::gen::fixed::{array_chain, table_all, table_e, table_r, table_s};
+use crate::columns::Table;
+use crate::gen::fixed::table_s;
+use crate::scenes::{self, Scene};
 use crate::table::{self, file, Node};
-use crate::{ffi, read, rows, write, MAX_BYTES, WORK_WORDS};
+use crate::write::{self, Search};
+use crate::{clock, ffi, read, Answer, MAX_BYTES, NO_DEDUPLICATION, WORK_WORDS};
 
-/// Runs of each measurement; the best one counts.
-const RUNS: usize = 25;
-/// A run goes on for at least so many seconds.
-const RUN: f64 = 0.004;
+/// Rounds of all measurements; a call's best one counts.
+const ROUNDS: usize = 60;
+/// In a round, a call is repeated until that takes so many seconds.
+const ROUND: f64 = 0.001;
+
+/// A call to be timed; none where the library is not linked.
+type Call<'a> = Option<Box<dyn FnMut() + 'a>>;
 
 pub fn run() {
-    println!("best of {RUNS} runs; ns per row, per node for checking; - is not linked");
-    println!("lent: rows and output just enough, 16,384 words of work");
-    let head = format!("{:>9}{:>9}{:>7}", "model", "library", "ratio");
-    println!("{:<41}  {:^25}  {:^25}", "", "reading", "writing");
-    println!("{:<34}{:>7}  {head}  {head}", "", "rows");
-    for scene in scenes() {
-        scene.measure();
+    let pairs = scenes::pairs();
+    let tables = scenes::tables();
+    let files: Vec<Vec<u8>> = tables.iter().flatten().map(|(_, t)| file(t)).collect();
+    let mut calls = Vec::new();
+    calls.extend(pairs.iter().flatten().flat_map(read_calls));
+    for modes in [0, NO_DEDUPLICATION] {
+        let scenes = pairs.iter().flatten();
+        calls.extend(scenes.flat_map(|scene| write_calls(scene, modes)));
     }
-    println!("{:<41}  {:^25}", "", "checking");
-    println!("{:<34}{:>7}  {head}", "", "nodes");
-    let mut wide = vec![Node::new(table::RECORD, 0, 1_023)];
-    wide.resize(1_024, Node::new(table::BOOLEAN, 0, 0));
-    let mut half = vec![Node::new(table::RECORD, 0, 511)];
-    half.resize(512, Node::new(table::BOOLEAN, 0, 0));
-    let tables = [
-        ("table R", table_r()),
-        ("one field of every kind", table_all()),
-        ("32 deep", array_chain(32, true)),
-        ("512 nodes", half),
-        ("1,024 nodes", wide),
-    ];
-    for (name, nodes) in tables {
-        check(name, &nodes);
+    calls.extend(files.iter().flat_map(|file| check_calls(file)));
+    let mut times = Times(best(calls).into_iter());
+
+    println!(
+        "Processor time in ns for each row, or node when checking; best of {ROUNDS} rounds.\n"
+    );
+    reading(&pairs, &mut times);
+    writing(&pairs, &mut times);
+    checking(&tables, &mut times);
+}
+
+/// One call on each of the rows that are worst for a search: with the hash table, and the library.
+pub fn hostile() {
+    println!("One call each, processor time in ms: places that differ only far behind; the answer is 43.\n");
+    let mut table = Table::new("writing | places | hash | library | ratio");
+    for places in [64, 128, 4_096, 8_191] {
+        let (rows, pool) = scenes::hostile(places);
+        let nodes = file(&table_s());
+        let (mut out, mut work) = (vec![0; MAX_BYTES], Work::new());
+        let start = clock::now();
+        let ours = write::write(&nodes, 0, &rows, &pool, &mut out, WORK_WORDS);
+        let hash = clock::now() - start;
+        let start = clock::now();
+        let theirs = ffi::write(&nodes, 0, &rows, &pool, &mut out, &mut work.0);
+        let library = theirs.map_or(f64::NAN, |_| clock::now() - start);
+        assert_eq!(ours, Answer::refused(43, 0));
+        assert!(theirs.is_none_or(|theirs| theirs == ours));
+        let mut line = table.line("places of 60,000 bytes", places);
+        line.milliseconds(&[hash, library]);
+        line.ratios(&[library / hash]);
+    }
+    table.print();
+}
+
+/// The model bare and with work to zero, and the library.
+fn read_calls(scene: &Scene) -> [Call<'_>; 3] {
+    let room = || vec![0; scene.rows.len()];
+    let (table, message) = (&scene.table, &scene.message);
+    let (mut bare, mut zeroed, mut lent) = (room(), room(), room());
+    let (mut owed, mut work) = (Work::new(), Work::new());
+    [
+        call(move || read::read(table, message, &mut bare, WORK_WORDS)),
+        call(move || {
+            owed.zero();
+            read::read(table, message, &mut zeroed, WORK_WORDS)
+        }),
+        linked(move || ffi::read(table, message, &mut lent, &mut work.0)),
+    ]
+}
+
+/// The model bare, with work to zero, and with that and the sheet's search; and the library.
+fn write_calls(scene: &Scene, modes: u64) -> [Call<'_>; 4] {
+    let room = match modes {
+        0 => vec![0; scene.message.len()],
+        _ => vec![0; scene.long],
+    };
+    let (table, rows, pool) = (&scene.table, &scene.rows, &scene.pool);
+    let model = move |search: Search, out: &mut [u8]| {
+        write::write_by(search, table, modes as u128, rows, pool, out, WORK_WORDS)
+    };
+    let [mut bare, mut hash, mut one_by_one, mut lent] = std::array::from_fn(|_| room.clone());
+    let [mut owed, mut owed_too, mut work] = std::array::from_fn(|_| Work::new());
+    [
+        call(move || model(Search::Hash, &mut bare)),
+        call(move || {
+            owed.zero();
+            model(Search::Hash, &mut hash)
+        }),
+        call(move || {
+            owed_too.zero();
+            model(Search::OneByOne, &mut one_by_one)
+        }),
+        linked(move || ffi::write(table, modes, rows, pool, &mut lent, &mut work.0)),
+    ]
+}
+
+/// As for reading.
+fn check_calls(table: &[u8]) -> [Call<'_>; 3] {
+    let (mut owed, mut work) = (Work::new(), Work::new());
+    [
+        call(move || table::check(table, WORK_WORDS)),
+        call(move || {
+            owed.zero();
+            table::check(table, WORK_WORDS)
+        }),
+        linked(move || ffi::check(table, &mut work.0)),
+    ]
+}
+
+fn call<'a>(mut call: impl FnMut() -> Answer + 'a) -> Call<'a> {
+    Some(Box::new(move || assert!(call().is_success())))
+}
+
+fn linked<'a>(mut call: impl FnMut() -> Option<Answer> + 'a) -> Call<'a> {
+    call()?;
+    Some(Box::new(move || {
+        assert!(call().is_some_and(Answer::is_success))
+    }))
+}
+
+/// Work of the size that a caller lends.
+struct Work(Vec<u32>);
+
+impl Work {
+    fn new() -> Work {
+        Work(vec![0; WORK_WORDS])
+    }
+
+    /// Zeroed as the sheet owes it; whoever lent it might look.
+    fn zero(&mut self) {
+        self.0.fill(0);
+        black_box(&mut self.0[..]);
     }
 }
 
-/// A tree with its table and its message.
-struct Scene {
-    name: String,
-    table: Vec<u8>,
-    rows: Vec<u64>,
-    pool: Vec<u8>,
-    message: Vec<u8>,
-}
-
-impl Scene {
-    fn new(name: &str, nodes: &[Node], rows: Vec<u64>, pool: Vec<u8>) -> Scene {
-        let table = file(nodes);
-        let mut message = vec![0; MAX_BYTES];
-        let answer = write::write(&table, 0, &rows, &pool, &mut message, WORK_WORDS);
-        assert!(answer.is_success(), "{name}: {answer}");
-        message.truncate(answer.second as usize);
-        Scene {
-            name: name.to_string(),
-            table,
-            rows,
-            pool,
-            message,
+/// Seconds that each call takes, in its best round; not a number where there is none. The rounds of a call lie apart,
+/// so that what disturbs the machine for a while does not meet all of them.
+fn best(mut calls: Vec<Call>) -> Vec<f64> {
+    let mut best = vec![f64::INFINITY; calls.len()];
+    for _ in 0..ROUNDS {
+        for (best, call) in best.iter_mut().zip(&mut calls) {
+            *best = match call {
+                Some(call) => best.min(round(call)),
+                None => f64::NAN,
+            };
         }
-    }
-
-    fn measure(&self) {
-        let count = self.rows.len() / 3;
-        let mut lent_rows = vec![0; self.rows.len()];
-        let mut out = vec![0; self.message.len()];
-        let mut work = vec![0; WORK_WORDS];
-        let ours = best(|| {
-            let answer = read::read(&self.table, &self.message, &mut lent_rows, WORK_WORDS);
-            assert!(answer.is_success());
-        });
-        let theirs = ffi::has('R').then(|| {
-            best(|| {
-                let answer = ffi::read(&self.table, &self.message, &mut lent_rows, &mut work);
-                assert!(answer.is_some_and(|answer| answer.is_success()));
-            })
-        });
-        print!("{:<34}{count:>7}", self.name);
-        columns(ours, theirs, count);
-        let ours = best(|| {
-            let answer = write::write(&self.table, 0, &self.rows, &self.pool, &mut out, WORK_WORDS);
-            assert!(answer.is_success());
-        });
-        let theirs = ffi::has('W').then(|| {
-            best(|| {
-                let (rows, pool) = (&self.rows, &self.pool);
-                let answer = ffi::write(&self.table, 0, rows, pool, &mut out, &mut work);
-                assert!(answer.is_some_and(|answer| answer.is_success()));
-            })
-        });
-        columns(ours, theirs, count);
-        println!();
-    }
-}
-
-fn check(name: &str, nodes: &[Node]) {
-    let table = file(nodes);
-    let mut work = vec![0; WORK_WORDS];
-    let ours = best(|| assert!(table::check(&table, WORK_WORDS).is_success()));
-    let theirs = ffi::has('T').then(|| {
-        best(|| {
-            let answer = ffi::check(&table, &mut work);
-            assert!(answer.is_some_and(|answer| answer.is_success()));
-        })
-    });
-    print!("{name:<34}{:>7}", nodes.len());
-    columns(ours, theirs, nodes.len());
-    println!();
-}
-
-fn columns(ours: f64, theirs: Option<f64>, count: usize) {
-    let each = |seconds: f64| seconds * 1e9 / count as f64;
-    match theirs {
-        Some(theirs) => {
-            let ratio = theirs / ours;
-            print!("  {:>9.2}{:>9.2}{ratio:>7.2}", each(ours), each(theirs));
-        }
-        None => print!("  {:>9.2}{:>9}{:>7}", each(ours), "-", "-"),
-    }
-}
-
-/// Seconds that one call takes, in the best of several runs.
-fn best(mut call: impl FnMut()) -> f64 {
-    let mut best = f64::INFINITY;
-    for _ in 0..RUNS {
-        let start = Instant::now();
-        let mut calls = 0;
-        while start.elapsed().as_secs_f64() < RUN {
-            for _ in 0..8 {
-                call();
-            }
-            calls += 8;
-        }
-        best = best.min(start.elapsed().as_secs_f64() / calls as f64);
     }
     best
 }
 
-fn scenes() -> Vec<Scene> {
-    let mut scenes = Vec::new();
-    for records in [600, 1_200] {
-        scenes.push(night(records));
+fn round(call: &mut dyn FnMut()) -> f64 {
+    let mut calls = 1;
+    loop {
+        let start = clock::now();
+        for _ in 0..calls {
+            call();
+        }
+        let time = clock::now() - start;
+        if time >= ROUND {
+            return time / calls as f64;
+        }
+        calls *= 2;
     }
-    for literals in [2_048, 4_096] {
-        scenes.push(references(literals, literals * 4_000 / 4_096));
-    }
-    for entries in [4_095, 8_191] {
-        let mut list = vec![rows::ARRAY, entries as u64, 0];
-        list.extend([rows::RECORD, 0, 0].repeat(entries));
-        scenes.push(Scene::new(
-            &format!("{entries} empty records"),
-            &table_e(),
-            list,
-            Vec::new(),
-        ));
-    }
-    for entries in [2_047, 4_095] {
-        let nodes = [
-            Node::new(table::ARRAY, 0, 0),
-            Node::new(table::RECORD, 0, 1),
-            Node::new(table::BOOLEAN, 0, 0),
-        ];
-        let mut list = vec![rows::ARRAY, entries as u64, 0];
-        list.extend([rows::RECORD, 1, 0, rows::TRUE, 0, 0].repeat(entries));
-        scenes.push(Scene::new(
-            &format!("{entries} records of one truth"),
-            &nodes,
-            list,
-            Vec::new(),
-        ));
-    }
-    for entries in [125, 250] {
-        scenes.push(deep(entries));
-    }
-    scenes
 }
 
-/// A night of jobs: name, status, note, seconds, digest.
-fn night(records: usize) -> Scene {
-    let n = Node::new;
-    let nodes = [
-        n(table::ARRAY, 0, 0),
-        n(table::RECORD, 0, 5),
-        n(table::BLOCK, 2, 0),
-        n(table::STRING, 0, 0),
-        n(table::BLOCK, 2, 1),
-        n(table::STRING, 0, 0),
-        n(table::NULLABLE, 0, 0),
-        n(table::BLOCK, 2, 2),
-        n(table::STRING, 0, 0),
-        n(table::BLOCK, 0, 3),
-        n(table::VARINT, 0, 0),
-        n(table::BLOCK, 0, 4),
-        n(table::FIXED, 0, 20),
-    ];
-    let statuses = ["PASSED", "PASSED", "PASSED", "FAILED", "KILLED", "SKIPPED"];
-    let notes = [
-        "flaky, tried again",
-        "timeout after an hour",
-        "no runner free",
-    ];
-    let mut pool = Vec::new();
-    let mut list = vec![rows::ARRAY, records as u64, 0];
-    let text = |text: &str, pool: &mut Vec<u8>| {
-        pool.extend(text.as_bytes());
-        [
-            rows::STRING,
-            (pool.len() - text.len()) as u64,
-            text.len() as u64,
-        ]
+/// The times in the order of the calls.
+struct Times(std::vec::IntoIter<f64>);
+
+impl Times {
+    fn next<const N: usize>(&mut self) -> [f64; N] {
+        std::array::from_fn(|_| self.0.next().expect("a time for each call"))
+    }
+}
+
+fn reading(pairs: &[[Scene; 2]], times: &mut Times) {
+    let size = |scene: &Scene| (scene.name.clone(), scene.count());
+    let groups = pairs.iter().map(|pair| pair.iter().map(size).collect());
+    side_by_side("reading | rows", groups.collect(), times);
+}
+
+fn checking(tables: &[Vec<(&str, Vec<Node>)>], times: &mut Times) {
+    let size = |(name, nodes): &(&str, Vec<Node>)| (name.to_string(), nodes.len());
+    let groups = tables.iter().map(|group| group.iter().map(size).collect());
+    side_by_side("checking | nodes", groups.collect(), times);
+}
+
+/// The model bare and with work to zero, and the library; each group is of n and, where it has two, 2n.
+fn side_by_side(head: &str, groups: Vec<Vec<(String, usize)>>, times: &mut Times) {
+    let columns = "bare | model | library | ratio | to bare | 2n: model | library";
+    let mut table = Table::new(&format!("{head} | {columns}"));
+    for group in groups {
+        let mut before = [f64::NAN; 3];
+        for (name, count) in group {
+            let all @ [bare, model, library] = times.next();
+            let mut line = table.line(&name, count);
+            line.each(&all);
+            line.ratios(&[library / model, library / bare]);
+            line.ratios(&[model / before[1], library / before[2]]);
+            before = all;
+        }
+    }
+    table.print();
+}
+
+fn writing(pairs: &[[Scene; 2]], times: &mut Times) {
+    let mut take = || -> Vec<[[f64; 4]; 2]> {
+        let both = |_| std::array::from_fn(|_| times.next());
+        pairs.iter().map(both).collect()
     };
-    let words: Vec<[u64; 3]> = statuses
-        .iter()
-        .chain(&notes)
-        .map(|word| text(word, &mut pool))
-        .collect();
-    for i in 0..records {
-        list.extend([rows::RECORD, 5, 0]);
-        list.extend(text(&format!("unit/parser/{i:04}"), &mut pool));
-        list.extend(words[(i * 7 + i / 5) % statuses.len()]);
-        match i % 4 {
-            0 => list.extend(words[statuses.len() + i / 4 % notes.len()]),
-            _ => list.extend([rows::NULL, 0, 0]),
-        }
-        list.extend([rows::INTEGER, (i * 37 % 4_000) as u64, 0]);
-        list.extend([rows::FIXED, pool.len() as u64, 20]);
-        pool.extend((0..20u8).map(|k| k.wrapping_mul(31) ^ i as u8));
-    }
-    Scene::new(&format!("a night of {records} jobs"), &nodes, list, pool)
+    let (searching, plain) = (take(), take());
+    with_search(pairs, &searching);
+    without_search(pairs, &searching, &plain);
 }
 
-/// Different texts first, then references all over them.
-fn references(literals: usize, repeats: usize) -> Scene {
-    let pool: Vec<u8> = (0..literals)
-        .flat_map(|i| format!("{i:06}").into_bytes())
-        .collect();
-    let text = |i: usize| [rows::STRING, 6 * i as u64, 6];
-    let mut list = vec![rows::ARRAY, (literals + repeats) as u64, 0];
-    list.extend((0..literals).flat_map(text));
-    list.extend((0..repeats).flat_map(|i| text(i * 2_654_435_761 % literals)));
-    let name = format!("{literals} literals, {repeats} backreferences");
-    Scene::new(&name, &table_s(), list, pool)
+fn with_search(pairs: &[[Scene; 2]], times: &[[[f64; 4]; 2]]) {
+    let mut table = Table::new(
+        "writing | rows | bare | hash | one by one | library | to hash | to one by one \
+         | 2n: hash | one by one | library",
+    );
+    for (pair, times) in pairs.iter().zip(times) {
+        let mut before = [f64::NAN; 4];
+        for (scene, all) in pair.iter().zip(times) {
+            let [_, hash, search, library] = *all;
+            let mut line = table.line(&scene.name, scene.count());
+            line.each(all);
+            line.ratios(&[library / hash, library / search]);
+            line.ratios(&[hash / before[1], search / before[2], library / before[3]]);
+            before = *all;
+        }
+    }
+    table.print();
 }
 
-/// Under an array, each entry goes down through arrays of one to depth 32.
-fn deep(entries: usize) -> Scene {
-    let nodes = array_chain(32, true);
-    let mut list = vec![rows::ARRAY, entries as u64, 0];
-    for i in 0..entries {
-        for _ in 0..29 {
-            list.extend([rows::ARRAY, 1, 0]);
+/// In mode 5 nothing is looked for. What the search takes is the time with it less the time without it.
+fn without_search(pairs: &[[Scene; 2]], searching: &[[[f64; 4]; 2]], plain: &[[[f64; 4]; 2]]) {
+    let mut table = Table::new(
+        "writing in mode 5 | rows | model | library | ratio | 2n: model | library \
+         | search: one by one | library | of all",
+    );
+    for (i, pair) in pairs.iter().enumerate() {
+        let mut before = [f64::NAN; 4];
+        for (j, scene) in pair.iter().enumerate() {
+            let (with, without) = (searching[i][j], plain[i][j]);
+            let [_, model, _, library] = without;
+            let mut line = table.line(&scene.name, scene.count());
+            line.each(&[model, library]);
+            line.ratios(&[library / model, model / before[1], library / before[3]]);
+            // A difference of two times may come out below zero.
+            let search = |way: usize| (with[way] - without[way]).clamp(0.0, f64::INFINITY);
+            line.each(&[search(2), search(3)]);
+            line.share(search(3) / with[3]);
+            before = without;
         }
-        list.extend([rows::STRING, (i % 8) as u64, 8]);
     }
-    let pool = b"deepdeepdeepdeep".to_vec();
-    Scene::new(&format!("{entries} entries, 32 deep"), &nodes, list, pool)
+    table.print();
 }

@@ -3,14 +3,18 @@
 
 pub mod bench;
 pub mod case;
+pub mod clock;
+pub mod columns;
 pub mod compare;
 pub mod ffi;
 pub mod gen;
 pub mod label;
+pub mod night;
 pub mod read;
 pub mod rng;
 pub mod rows;
 pub mod sample;
+pub mod scenes;
 pub mod small;
 pub mod spell;
 pub mod store;

@@ -3,7 +3,8 @@ use std::io::{self, BufWriter, Write};
 use std::process::ExitCode;
 
 use model::case::{judge, Case, Verdict};
-use model::{bench, compare, gen, sample, small, store};
+use model::night::Night;
+use model::{bench, compare, gen, sample, small, store, table};
 
 const USAGE: &str = "\
 model vectors FILE                                       answer every line of FILE and compare
@@ -16,7 +17,9 @@ model small                                              search all spellings of
 model compare --seed S --count N [--kinds TRWLP]         generated cases through libargo.a
     [--trace yes]                                        print each case before its call
 model compare --file FILE                                stored cases through libargo.a
-model bench                                              time the model, and libargo.a if linked";
+model bench                                              time the model, and libargo.a if linked
+model bench --hostile                                    the same on rows that are worst for a search: may take minutes
+model night DIR N                                        a night of N jobs: DIR/night-N.table, .message and .json";
 
 fn main() -> ExitCode {
     let words: Vec<String> = std::env::args().skip(1).collect();
@@ -51,6 +54,18 @@ fn run(words: &[&str]) -> Result<bool, String> {
         }
         ["bench"] => {
             bench::run();
+            Ok(true)
+        }
+        ["bench", "--hostile"] => {
+            bench::hostile();
+            Ok(true)
+        }
+        ["night", dir, jobs] => {
+            let night = Night::new(jobs.parse().map_err(|_| USAGE)?);
+            let table = table::file(&Night::nodes());
+            put(dir, &format!("night-{jobs}.table"), &table)?;
+            put(dir, &format!("night-{jobs}.message"), &night.message())?;
+            put(dir, &format!("night-{jobs}.json"), night.json().as_bytes())?;
             Ok(true)
         }
         _ => Err(USAGE.to_string()),

@@ -10,6 +10,15 @@ use crate::{
     MODES, NO_DEDUPLICATION, WORK_WORDS,
 };
 
+/// How the first equal literal of a key is found; the message is the same.
+#[derive(Clone, Copy, Debug, PartialEq, Eq)]
+pub enum Search {
+    /// By a hash table.
+    Hash,
+    /// By the sheet's words: through the earlier literals of the key, one by one.
+    OneByOne,
+}
+
 /// The call. Modes are a number of any width whose bit m is mode m.
 pub fn write(
     table: &[u8],
@@ -19,7 +28,20 @@ pub fn write(
     out: &mut [u8],
     work: usize,
 ) -> Answer {
-    match write_message(table, modes, rows, pool, out, work) {
+    write_by(Search::Hash, table, modes, rows, pool, out, work)
+}
+
+/// The call, with this search.
+pub fn write_by(
+    search: Search,
+    table: &[u8],
+    modes: u128,
+    rows: &[u64],
+    pool: &[u8],
+    out: &mut [u8],
+    work: usize,
+) -> Answer {
+    match write_message(search, table, modes, rows, pool, out, work) {
         Ok(len) => {
             out[len..].fill(0);
             Answer::success(len)
@@ -32,6 +54,7 @@ pub fn write(
 }
 
 fn write_message(
+    search: Search,
     table: &[u8],
     modes: u128,
     rows: &[u64],
@@ -52,6 +75,7 @@ fn write_message(
         return refuse(41, 0);
     }
     let mut writer = Writer {
+        search,
         types: &types,
         modes,
         rows,
@@ -78,11 +102,39 @@ fn write_message(
 struct Key<'a> {
     touched: bool,
     block: Vec<u8>,
-    /// The number of each different value, counted from 0.
+    /// The number of each different value, counted from 0: in the hash table, or its place in the list.
     numbers: HashMap<&'a [u8], u32, BuildHasherDefault<Mixer>>,
+    literals: Vec<&'a [u8]>,
+}
+
+impl<'a> Key<'a> {
+    /// The number of the equal literal; a new one is kept, with the next number. `room` is how many may still come.
+    fn number_of(&mut self, value: &'a [u8], search: Search, room: usize) -> Option<u32> {
+        if search == Search::OneByOne {
+            // Slices are compared by their lengths first.
+            let first = self.literals.iter().position(|&literal| literal == value);
+            if first.is_none() {
+                self.literals.push(value);
+            }
+            return first.map(|number| number as u32);
+        }
+        if self.numbers.capacity() == 0 {
+            // Room at once for what may come, so that it seldom grows.
+            self.numbers.reserve(room.min(MAX_NUMBERED) / 2);
+        }
+        let next = self.numbers.len() as u32;
+        match self.numbers.entry(value) {
+            Entry::Occupied(number) => Some(*number.get()),
+            Entry::Vacant(new) => {
+                new.insert(next);
+                None
+            }
+        }
+    }
 }
 
 struct Writer<'a> {
+    search: Search,
     types: &'a [WireType],
     modes: u64,
     rows: &'a [u64],
@@ -170,22 +222,12 @@ impl<'a> Writer<'a> {
     /// A STRING or BYTES: the number of the first equal literal, else a literal.
     fn labelled_bytes(&mut self, this: &WireType, value: &'a [u8]) {
         if this.deduplicate && self.modes & NO_DEDUPLICATION == 0 {
-            let numbers = &mut self.keys[this.key as usize].numbers;
-            if numbers.capacity() == 0 {
-                // Room at once for what may come, so that it seldom grows.
-                numbers.reserve((self.rows.len() / 3 - self.next).min(MAX_NUMBERED) / 2);
+            let room = self.rows.len() / 3 - self.next;
+            let key = &mut self.keys[this.key as usize];
+            if let Some(number) = key.number_of(value, self.search, room) {
+                return self.label(-4 - number as i64);
             }
-            let next = numbers.len() as u32;
-            match numbers.entry(value) {
-                Entry::Occupied(number) => {
-                    let n = -4 - *number.get() as i64;
-                    return self.label(n);
-                }
-                Entry::Vacant(new) => {
-                    new.insert(next);
-                    self.different += 1;
-                }
-            }
+            self.different += 1;
         }
         self.label(value.len() as i64);
         self.put(this.key, value);

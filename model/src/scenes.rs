@@ -1,0 +1,136 @@
+//! Trees to time calls on, mostly in pairs of n and 2n rows.
+
+use crate::columns::commas;
+use crate::gen::fixed::{array_chain, table_all, table_e, table_s};
+use crate::night::Night;
+use crate::table::{self, file, Node};
+use crate::{rows, write, MAX_BYTES, NO_DEDUPLICATION, WORK_WORDS};
+
+/// A tree with its table and its message; and how long the message is in mode 5.
+pub struct Scene {
+    pub name: String,
+    pub table: Vec<u8>,
+    pub rows: Vec<u64>,
+    pub pool: Vec<u8>,
+    pub message: Vec<u8>,
+    pub long: usize,
+}
+
+impl Scene {
+    fn new(name: &str, nodes: &[Node], rows: Vec<u64>, pool: Vec<u8>) -> Scene {
+        let table = file(nodes);
+        let mut message = vec![0; MAX_BYTES];
+        let [long, short] = [NO_DEDUPLICATION, 0].map(|modes| {
+            let modes = modes as u128;
+            let answer = write::write(&table, modes, &rows, &pool, &mut message, WORK_WORDS);
+            assert!(answer.is_success(), "{name}: {answer}");
+            answer.second as usize
+        });
+        message.truncate(short);
+        Scene {
+            name: name.to_string(),
+            table,
+            rows,
+            pool,
+            message,
+            long,
+        }
+    }
+
+    pub fn count(&self) -> usize {
+        self.rows.len() / 3
+    }
+}
+
+pub fn pairs() -> Vec<[Scene; 2]> {
+    vec![
+        [600, 1_200].map(night),
+        [2_048, 4_096].map(references),
+        [4_095, 8_191].map(empty_records),
+        [2_047, 4_095].map(truths),
+        [125, 250].map(deep),
+    ]
+}
+
+/// Tables to check: those of the trees above; a pair of n and 2n nodes; some others.
+pub fn tables() -> Vec<Vec<(&'static str, Vec<Node>)>> {
+    vec![
+        vec![("the night's table", Night::nodes())],
+        vec![("table S, texts", table_s())],
+        vec![("table E, empty records", table_e())],
+        vec![("one field of every kind", table_all())],
+        vec![("32 deep", array_chain(32, true))],
+        vec![("512 truths", wide(512)), ("1,024 truths", wide(1_024))],
+    ]
+}
+
+/// A record of truths, with so many nodes in all.
+fn wide(nodes: u16) -> Vec<Node> {
+    let mut list = vec![Node::new(table::RECORD, 0, nodes - 1)];
+    list.resize(nodes as usize, Node::new(table::BOOLEAN, 0, 0));
+    list
+}
+
+fn night(jobs: usize) -> Scene {
+    let (list, pool) = Night::new(jobs).rows();
+    let name = format!("a night of {} jobs", commas(jobs));
+    Scene::new(&name, &Night::nodes(), list, pool)
+}
+
+/// Different texts first, then references all over them.
+fn references(literals: usize) -> Scene {
+    let repeats = literals * 4_000 / 4_096;
+    let pool: Vec<u8> = (0..literals)
+        .flat_map(|i| format!("{i:06}").into_bytes())
+        .collect();
+    let text = |i: usize| [rows::STRING, 6 * i as u64, 6];
+    let mut list = vec![rows::ARRAY, (literals + repeats) as u64, 0];
+    list.extend((0..literals).flat_map(text));
+    list.extend((0..repeats).flat_map(|i| text(i * 2_654_435_761 % literals)));
+    let name = format!("{} texts, {} repeats", commas(literals), commas(repeats));
+    Scene::new(&name, &table_s(), list, pool)
+}
+
+fn empty_records(entries: usize) -> Scene {
+    let mut list = vec![rows::ARRAY, entries as u64, 0];
+    list.extend([rows::RECORD, 0, 0].repeat(entries));
+    let name = format!("{} empty records", commas(entries));
+    Scene::new(&name, &table_e(), list, Vec::new())
+}
+
+fn truths(entries: usize) -> Scene {
+    let nodes = [
+        Node::new(table::ARRAY, 0, 0),
+        Node::new(table::RECORD, 0, 1),
+        Node::new(table::BOOLEAN, 0, 0),
+    ];
+    let mut list = vec![rows::ARRAY, entries as u64, 0];
+    list.extend([rows::RECORD, 1, 0, rows::TRUE, 0, 0].repeat(entries));
+    let name = format!("{} records of a truth", commas(entries));
+    Scene::new(&name, &nodes, list, Vec::new())
+}
+
+/// Under an array, each entry goes down through arrays of one to depth 32.
+fn deep(entries: usize) -> Scene {
+    let nodes = array_chain(32, true);
+    let mut list = vec![rows::ARRAY, entries as u64, 0];
+    for i in 0..entries {
+        for _ in 0..29 {
+            list.extend([rows::ARRAY, 1, 0]);
+        }
+        list.extend([rows::STRING, (i % 8) as u64, 8]);
+    }
+    let pool = b"deepdeepdeepdeep".to_vec();
+    let name = format!("{entries} entries, 32 deep");
+    Scene::new(&name, &nodes, list, pool)
+}
+
+/// Rows that no message holds: long places in a pool of one letter with another at 60,000, so that two of them differ
+/// only far behind. At most 4,096 are different, so that the answer is 43.
+pub fn hostile(places: usize) -> (Vec<u64>, Vec<u8>) {
+    let mut pool = vec![b'a'; MAX_BYTES];
+    pool[60_000] = b'b';
+    let mut list = vec![rows::ARRAY, places as u64, 0];
+    list.extend((0..places as u64).flat_map(|i| [rows::STRING, i % 4_096, 60_000]));
+    (list, pool)
+}
