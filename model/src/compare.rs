@@ -1,6 +1,7 @@
 //! Cases through the C interface, against the model. Every lent word is garbage
 //! before the call and looked at after it, and so are guard words around it.
 
+use std::collections::BTreeMap;
 use std::time::Instant;
 
 use crate::case::Case;
@@ -147,7 +148,8 @@ impl<T: Word> Lent<T> {
     }
 }
 
-struct Comparison {
+/// Calls of the library beside the model's.
+pub struct Comparison {
     rng: Rng,
     work: Lent<u32>,
     rows: Lent<u64>,
@@ -155,11 +157,13 @@ struct Comparison {
     model_rows: Vec<u64>,
     model_out: Vec<u8>,
     total: usize,
+    /// How many of each kind there were.
+    kinds: BTreeMap<char, usize>,
     differ: usize,
 }
 
 impl Comparison {
-    fn new(seed: u64) -> Comparison {
+    pub fn new(seed: u64) -> Comparison {
         let mut rng = Rng::new(!seed);
         Comparison {
             work: Lent::new(&mut rng),
@@ -168,18 +172,27 @@ impl Comparison {
             model_rows: Vec::new(),
             model_out: Vec::new(),
             total: 0,
+            kinds: BTreeMap::new(),
             differ: 0,
             rng,
         }
     }
 
-    fn close(&self) -> bool {
-        println!("{} cases, {} differ", self.total, self.differ);
+    /// Prints how many agree; true when all do.
+    pub fn close(&self) -> bool {
+        let kinds: Vec<String> = self
+            .kinds
+            .iter()
+            .map(|(kind, count)| format!("{kind} {count}"))
+            .collect();
+        let kinds = kinds.join(", ");
+        println!("{} cases ({kinds}), {} differ", self.total, self.differ);
         self.differ == 0
     }
 
-    fn compare(&mut self, case: &Case) {
+    pub fn compare(&mut self, case: &Case) {
         self.total += 1;
+        *self.kinds.entry(case.kind()).or_default() += 1;
         if let Err(difference) = self.difference(case) {
             self.differ += 1;
             if self.differ <= SHOWN {

@@ -2,18 +2,25 @@
 
 use std::collections::HashSet;
 
+use crate::case::Case;
+use crate::compare::Comparison;
 use crate::gen::fixed::{
     all_modes, base_trees, table_e, table_omittable_record, table_r, table_s, types, HEADERS,
 };
 use crate::table::{self, file, Node, WireType};
 use crate::{
-    label, read, rows, spell, write, Answer, INLINE_EVERYTHING, MAX_BYTES, MAX_ROWS,
+    ffi, label, read, rows, spell, write, Answer, INLINE_EVERYTHING, MAX_BYTES, MAX_ROWS,
     NO_DEDUPLICATION, WORK_WORDS,
 };
 
-/// Runs all searches, prints what they saw; true when nothing failed.
+/// Runs all searches, prints what they saw; true when nothing failed. Where the library is linked, it writes each tree
+/// into each buffer too, and reads each message: it must answer as the model does.
 pub fn run() -> bool {
-    let mut search = Search::default();
+    let linked = ffi::has('W') && ffi::has('R');
+    let mut search = Search {
+        library: linked.then(|| Comparison::new(1)),
+        ..Search::default()
+    };
     search.small_trees();
     search.report("small trees");
     search.boundaries();
@@ -22,7 +29,11 @@ pub fn run() -> bool {
     search.short_messages();
     search.report("short messages");
     println!("{} failures", search.failures);
-    search.failures == 0
+    let library = search.library.is_none_or(|library| {
+        print!("the library: ");
+        library.close()
+    });
+    search.failures == 0 && library
 }
 
 /// What a search has seen.
@@ -37,6 +48,7 @@ pub struct Search {
     pub beaten: usize,
     pub no_room: usize,
     pub failures: usize,
+    library: Option<Comparison>,
 }
 
 impl Search {
@@ -48,6 +60,7 @@ impl Search {
         );
         *self = Search {
             failures: self.failures,
+            library: self.library.take(),
             ..Search::default()
         };
     }
@@ -61,6 +74,42 @@ impl Search {
         }
     }
 
+    /// The model's answer, which the library's must be.
+    fn write(
+        &mut self,
+        table: &[u8],
+        modes: u64,
+        rows: &[u64],
+        pool: &[u8],
+        out: &mut [u8],
+    ) -> Answer {
+        if let Some(library) = &mut self.library {
+            library.compare(&Case::Write {
+                work: WORK_WORDS,
+                out: out.len(),
+                modes: modes as u128,
+                table: table.to_vec(),
+                rows: rows.to_vec(),
+                pool: pool.to_vec(),
+            });
+        }
+        write::write(table, modes as u128, rows, pool, out, WORK_WORDS)
+    }
+
+    /// The rows of a message, which must be the library's too.
+    fn read(&mut self, table: &[u8], message: &[u8]) -> Result<Vec<u64>, Answer> {
+        let got = reading(table, message);
+        if let Some(library) = &mut self.library {
+            library.compare(&Case::Read {
+                work: WORK_WORDS,
+                rows: got.as_ref().map_or(0, Vec::len),
+                table: table.to_vec(),
+                message: message.to_vec(),
+            });
+        }
+        got
+    }
+
     /// One tree: each spelling reads as it; the writer makes a shortest one; 43
     /// comes exactly when none fits.
     pub fn tree(&mut self, nodes: &[Node], rows: &[u64], pool: &[u8], modes: u64) {
@@ -71,12 +120,13 @@ impl Search {
         self.trees += 1;
         self.messages += spellings.len();
         for message in &spellings {
-            let reads = reading(&table, message).is_ok_and(|got| tree_of(&got, message) == wanted);
+            let got = self.read(&table, message);
+            let reads = got.is_ok_and(|got| tree_of(&got, message) == wanted);
             self.expect(reads, "reads as its tree", nodes, rows, modes);
         }
         let least = spellings.iter().map(Vec::len).min().unwrap_or(0);
         let mut out = vec![0xee; MAX_BYTES];
-        let answer = write_into(&table, modes, rows, pool, &mut out);
+        let answer = self.write(&table, modes, rows, pool, &mut out);
         let count = answer.second as usize;
         let ours = &out[..count];
         self.expect(answer.is_success(), "is accepted", nodes, rows, modes);
@@ -94,7 +144,7 @@ impl Search {
             self.expect(count == least, "is shortest", nodes, rows, modes);
         }
         for lent in [0, 1, least - 1, least, count - 1, count, count + 1] {
-            let answer = write_into(&table, modes, rows, pool, &mut out[..lent]);
+            let answer = self.write(&table, modes, rows, pool, &mut out[..lent]);
             let fits = if premise {
                 least <= lent
             } else {
@@ -249,12 +299,12 @@ impl Search {
                 0 => 1 + 1 + label::size(core as i64) + core,
                 _ => 1 + core,
             };
-            let answer = write_into(&file(&nodes), modes, list, &[], &mut out);
+            let answer = self.write(&file(&nodes), modes, list, &[], &mut out);
             self.trees += 1;
             self.shortest += 1;
             let holds = answer == Answer::success(wanted);
             self.expect(holds, "is shortest", &nodes, &list[..3], modes);
-            let read_back = reading(&file(&nodes), &out[..wanted]);
+            let read_back = self.read(&file(&nodes), &out[..wanted]);
             let same = read_back.is_ok_and(|got| tree_of(&got, &out) == tree_of(list, &[]));
             self.expect(same, "reads as its tree", &nodes, &list[..3], modes);
         }
@@ -277,10 +327,10 @@ impl Search {
         let premise = spell::premise(&types(&nodes), &list, &pool, 0, false);
         self.expect(!premise, "stands outside the premise", &nodes, &list, 0);
         let mut out = vec![0; 130];
-        let answer = write_into(&file(&nodes), 0, &list, &pool, &mut out);
+        let answer = self.write(&file(&nodes), 0, &list, &pool, &mut out);
         let named = answer == Answer::success(130);
         self.expect(named, "the writer names it", &nodes, &list, 0);
-        let answer = write_into(&file(&nodes), 0, &list, &pool, &mut out[..129]);
+        let answer = self.write(&file(&nodes), 0, &list, &pool, &mut out[..129]);
         let refused = answer == Answer::refused(43, 0);
         self.expect(refused, "129 bytes are too few for it", &nodes, &list, 0);
         println!("63 texts of one byte: {sizes:?}, the writer's 130");
@@ -348,7 +398,7 @@ impl Search {
         let legal = spellings.contains(message);
         self.expect(legal, "what reads is a spelling", nodes, list, modes);
         let mut out = vec![0; message.len()];
-        let answer = write_into(table, modes, list, message, &mut out);
+        let answer = self.write(table, modes, list, message, &mut out);
         if spell::premise(&types, list, message, modes, false) {
             self.shortest += 1;
             let taken = answer.is_success() && answer.second <= message.len() as u64;
@@ -384,10 +434,6 @@ pub fn reading(table: &[u8], message: &[u8]) -> Result<Vec<u64>, Answer> {
         }
     }
     Err(Answer::refused(31, 0))
-}
-
-fn write_into(table: &[u8], modes: u64, rows: &[u64], pool: &[u8], out: &mut [u8]) -> Answer {
-    write::write(table, modes as u128, rows, pool, out, WORK_WORDS)
 }
 
 /// Rows with each place replaced by its bytes: equal for the same tree.
