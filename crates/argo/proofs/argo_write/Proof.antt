@@ -1,4 +1,4 @@
--- `argo::argo_write` meets its contract: its four equations are the writer's first four. Assumes nothing.
+-- `argo::argo_write` meets its contract: its promises are the writer's. Assumes nothing.
 use borrow.Author.Needs.{needs}
 use Rattle.argo.proofs.argo_write.Statement.{statement}
 use Rattle.argo.proofs.argo_write.Tie as tie
@@ -13,7 +13,7 @@ same-length-2 : tie.Need-same-length-2
 same-length-2 c = search needs
 
 returns : tie.Need-returns
-returns c = let e = c .before .before .before .before .write .ensures in (e .0, (e .1 .0, (e .1 .1 .0, e .1 .1 .1 .0)))
+returns c = let e = c .before .before .before .before .write .ensures in e
 
 pub argo-write-spec : {M : Type 1} → statement M
 argo-write-spec = tie.close (tie.spec write-requires same-length same-length-2 returns)
