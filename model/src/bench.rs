@@ -2,7 +2,7 @@
 
 use std::hint::black_box;
 
-use crate::columns::Table;
+use crate::columns::{commas, Table};
 use crate::gen::fixed::table_s;
 use crate::scenes::{self, Scene};
 use crate::table::{self, file, Node};
@@ -18,6 +18,9 @@ const ROUND: f64 = 0.001;
 type Call<'a> = Option<Box<dyn FnMut() + 'a>>;
 
 pub fn run() {
+    // After the first large block that is given back, the C library keeps as much for itself. Otherwise the model's calls
+    // would, or would not, fetch their memory anew from the system, as it happens to lie.
+    drop(black_box(vec![1u8; 16 << 20]));
     let pairs = scenes::pairs();
     let tables = scenes::tables();
     let files: Vec<Vec<u8>> = tables.iter().flatten().map(|(_, t)| file(t)).collect();
@@ -38,27 +41,42 @@ pub fn run() {
     checking(&tables, &mut times);
 }
 
-/// One call on each of the rows that are worst for a search: with the hash table, and the library.
+/// One call on each of the rows that are worst for a search: with the hash table, and the library. Each line is printed
+/// as soon as it is known.
 pub fn hostile() {
-    println!("One call each, processor time in ms: places that differ only far behind; the answer is 43.\n");
-    let mut table = Table::new("writing | places | hash | library | ratio");
-    for places in [64, 128, 4_096, 8_191] {
-        let (rows, pool) = scenes::hostile(places);
-        let nodes = file(&table_s());
-        let (mut out, mut work) = (vec![0; MAX_BYTES], Work::new());
-        let start = clock::now();
-        let ours = write::write(&nodes, 0, &rows, &pool, &mut out, WORK_WORDS);
-        let hash = clock::now() - start;
-        let start = clock::now();
-        let theirs = ffi::write(&nodes, 0, &rows, &pool, &mut out, &mut work.0);
-        let library = theirs.map_or(f64::NAN, |_| clock::now() - start);
-        assert_eq!(ours, Answer::refused(43, 0));
-        assert!(theirs.is_none_or(|theirs| theirs == ours));
-        let mut line = table.line("places of 60,000 bytes", places);
-        line.milliseconds(&[hash, library]);
-        line.ratios(&[library / hash]);
+    println!("Processor time of one call, in ms: places of 60,000 bytes that differ only far behind; the answer is 43.\n");
+    println!("| {:<7} | {:>7} | {:>9} |", "places", "hash", "library");
+    println!(
+        "|{}:|{}:|{}:|",
+        "-".repeat(8),
+        "-".repeat(8),
+        "-".repeat(10)
+    );
+    for places in [256, 512, 4_096, 8_191] {
+        let [hash, library] = hostile_times(places);
+        let places = commas(places);
+        println!(
+            "| {places:>7} | {:>7.1} | {:>9.1} |",
+            hash * 1e3,
+            library * 1e3
+        );
     }
-    table.print();
+    println!();
+}
+
+fn hostile_times(places: usize) -> [f64; 2] {
+    let (rows, pool) = scenes::hostile(places);
+    let table = file(&table_s());
+    let (mut out, mut work) = (vec![0; MAX_BYTES], Work::new());
+    let start = clock::now();
+    let ours = write::write(&table, 0, &rows, &pool, &mut out, WORK_WORDS);
+    let hash = clock::now() - start;
+    let start = clock::now();
+    let theirs = ffi::write(&table, 0, &rows, &pool, &mut out, &mut work.0);
+    let library = clock::now() - start;
+    assert_eq!(ours, Answer::refused(43, 0));
+    assert!(theirs.is_none_or(|theirs| theirs == ours));
+    [hash, theirs.map_or(f64::NAN, |_| library)]
 }
 
 /// The model bare and with work to zero, and the library.

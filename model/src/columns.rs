@@ -54,14 +54,16 @@ pub struct Line<'a> {
 }
 
 impl Line<'_> {
-    /// Seconds of a whole call, as nanoseconds for each row or node.
+    /// Seconds of a whole call, as nanoseconds for each row or node; three figures are all that a shared machine gives.
     pub fn each(&mut self, times: &[f64]) {
-        let count = self.count as f64;
-        self.numbers(times, |time| time * 1e9 / count);
-    }
-
-    pub fn milliseconds(&mut self, times: &[f64]) {
-        self.numbers(times, |time| time * 1e3);
+        for &time in times {
+            self.cells.push(match time * 1e9 / self.count as f64 {
+                n if n < 9.995 => shown(n, 2),
+                n if n < 99.95 => shown(n, 1),
+                n if n >= 999.5 => commas(n.round() as usize),
+                n => shown(n, 0),
+            });
+        }
     }
 
     pub fn ratios(&mut self, ratios: &[f64]) {
@@ -75,19 +77,6 @@ impl Line<'_> {
             false => format!("{:.0}%", share * 100.0),
         };
         self.cells.push(cell);
-    }
-
-    /// Three figures are all that a shared machine gives.
-    fn numbers(&mut self, times: &[f64], unit: impl Fn(f64) -> f64) {
-        for &time in times {
-            let number = unit(time);
-            self.cells.push(match number {
-                n if n < 9.995 => shown(n, 2),
-                n if n < 99.95 => shown(n, 1),
-                n if n >= 999.5 => commas(n.round() as usize),
-                n => shown(n, 0),
-            });
-        }
     }
 }
 

@@ -45,7 +45,8 @@ impl Scene {
 pub fn pairs() -> Vec<[Scene; 2]> {
     vec![
         [600, 1_200].map(night),
-        [2_048, 4_096].map(references),
+        [2_048, 4_096].map(|literals| texts(literals, 0)),
+        [2_048, 4_096].map(|literals| texts(literals, literals * 4_000 / 4_096)),
         [4_095, 8_191].map(empty_records),
         [2_047, 4_095].map(truths),
         [125, 250].map(deep),
@@ -78,8 +79,7 @@ fn night(jobs: usize) -> Scene {
 }
 
 /// Different texts first, then references all over them.
-fn references(literals: usize) -> Scene {
-    let repeats = literals * 4_000 / 4_096;
+fn texts(literals: usize, repeats: usize) -> Scene {
     let pool: Vec<u8> = (0..literals)
         .flat_map(|i| format!("{i:06}").into_bytes())
         .collect();
@@ -87,7 +87,10 @@ fn references(literals: usize) -> Scene {
     let mut list = vec![rows::ARRAY, (literals + repeats) as u64, 0];
     list.extend((0..literals).flat_map(text));
     list.extend((0..repeats).flat_map(|i| text(i * 2_654_435_761 % literals)));
-    let name = format!("{} texts, {} repeats", commas(literals), commas(repeats));
+    let name = match repeats {
+        0 => format!("{} different texts", commas(literals)),
+        _ => format!("{} texts, {} repeats", commas(literals), commas(repeats)),
+    };
     Scene::new(&name, &table_s(), list, pool)
 }
 
