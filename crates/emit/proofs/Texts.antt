@@ -9,20 +9,20 @@ use lib.Dec.{eqb}
 use lib.IntN.{pos}
 use lib.ListN.{length, getD, length-map, List·getD-map}
 use borrow.Author.Tests.{lt-ltb, le-ltb, eqb-true, eqb-false, not-true, not-false}
-use Rattle.format.specs.Answer.{Answer, ok, _>>=_}
+use Rattle.format.specs.Answer.{Answer, ok, refuse, _>>=_}
 use Rattle.format.specs.Label.{label}
 use Rattle.format.specs.Table.{Held}
 use Rattle.format.specs.Row.{Place, Text, bytesAt}
-use Rattle.format.specs.Read.{nth, addAt, total, numberLabel, isNumbered}
+use Rattle.format.specs.Read.{addAt, total, numberLabel, isNumbered}
 use Rattle.format.specs.Write.{text, choose, firstEqual}
 use Rattle.label.specs.Laws.{by-lt}
-use Rattle.store.specs.Store.{Store, added, rested}
+use Rattle.store.specs.Store.{Store, lookup, added, rested}
 use Rattle.store.specs.Words.{storeOf, Good, Changes}
-use Rattle.theory.specs.Facts.{absurd-some, some-same, by-bool}
+use Rattle.theory.specs.Facts.{absurd-bool, absurd-ok, ok-same, by-bool}
 use Rattle.theory.specs.Lists.{add-here, add-elsewhere}
-use Rattle.plan.specs.Plan.{Plan, emitLiteral, emitCore, emitBytes, emitFront, emitChoice, emitText, emitBody, emitEvent}
-use Rattle.plan.specs.Laws.{literal-plain, literal-kept, literal-over}
-use Rattle.search.specs.Search.{Inside, number, Small}
+use Rattle.plan.specs.Plan.{Plan, emitLiteral, emitCore, emitSlot, emitBytes, emitFront, emitChoice, emitText, emitBody, emitEvent}
+use Rattle.plan.specs.Laws.{slot-new, slot-none, literal-plain, literal-kept, literal-over}
+use Rattle.search.specs.Search.{textOf, textsOf, Inside, Keeps, Kept, number, Small, last-stands}
 use Rattle.search.specs.Parts.{part-length}
 use Rattle.search.specs.declared.Found.{Found}
 use Rattle.search.specs.declared.Found.the-variants.{Number, Nothing}
@@ -72,41 +72,55 @@ module _ {A B : Type 0} (f : A → B) where
   add-map (suc k) x (l ∷ ls) = ap (λ ls. map f l ∷ ls) (add-map k x ls)
 
 module _ (pool : List ℕ) (k : ℕ) (x : Place) where
-  literal-is : (out : List ℕ) (core : ℕ) (numbered : Bool) (s : Store) → planIn pool out core (kept numbered k x s) ≡ emitLiteral numbered k (bytesAt pool x) (planIn pool out core s)
+  literal-is : (out : List ℕ) (core : ℕ) (numbered : Bool) (s : Store) {v : Text} → (numbered ≡ true → textOf pool x ≡ v) → planIn pool out core (kept numbered k x s) ≡ emitLiteral numbered k v (planIn pool out core s)
   unfolding kept
-  literal-is out core false s = sym (literal-plain k (bytesAt pool x) (planIn pool out core s))
-  literal-is out core true s =
-      let t = total-map (bytesAt pool) (s .literals) in
-      by-lt (total (s .literals)) 4096
-      (λ h. rw (kept-more k x s h, literal-kept k (bytesAt pool x) (planIn pool out core s) (omega arith), add-map (bytesAt pool) k x (s .literals)))
-      (λ h. rw (kept-over k x s h, literal-over k (bytesAt pool x) (planIn pool out core s) (omega arith)))
+  literal-is out core false s {v} e = sym (literal-plain k v (planIn pool out core s))
+  literal-is out core true s e =
+      let t = total-map (textOf pool) (s .literals) in
+      rw (← e refl) (by-lt (total (s .literals)) 4096
+      (λ h. rw (kept-more k x s h, literal-kept k (textOf pool x) (planIn pool out core s) (omega arith), add-map (textOf pool) k x (s .literals)))
+      (λ h. rw (kept-over k x s h, literal-over k (textOf pool x) (planIn pool out core s) (omega arith))))
 
-  module _ (given : x .start + x .size ≤ length pool) where
-    inside-last : (l : List Place) → ((j : ℕ) (p : Place) → nth l j ≡ some p → p .start + p .size ≤ length pool) → (j : ℕ) (p : Place) → nth (l ++ x ∷ []) j ≡ some p → p .start + p .size ≤ length pool
-    unfolding nth
-    inside-last [] h zero p e = let q : x ≡ p = some-same e in rw q at given
-    inside-last [] h (suc j) p e = absurd-some e
-    inside-last (y ∷ l) h zero p e = h zero p e
-    inside-last (y ∷ l) h (suc j) p e = inside-last l (λ i q z. h (suc i) q z) j p e
-
-    inside-added : (ls : List (List Place)) → Inside pool ls → Inside pool (addAt k x ls)
-    inside-added ls h = record {
-      inside = λ i j p e. by-bool (eqb k i)
-          (λ t. let q : k ≡ i = eqb-true k i t in inside-last (getD ls k []) (h .inside k) j p (rw (← q, add-here k x ls) at e))
-          (λ t. h .inside i j p (rw (add-elsewhere k i x ls (eqb-false k i t)) at e));
+  module _ (p : Place) (given : p .start + p .size ≤ length pool) where
+    inside-added : (ls : List (List Place)) → Keeps pool (textsOf pool (getD ls k [])) p x → Inside pool ls → Inside pool (addAt k x ls)
+    inside-added ls kp h = record {
+      inside = λ i j y e. by-bool (eqb k i)
+          (λ t. let q : k ≡ i = eqb-true k i t in rw (← q, add-here k x ls) (last-stands pool (getD ls k []) p x given kp (h .inside k) j y (rw (← q, add-here k x ls) at e)))
+          (λ t. rw (add-elsewhere k i x ls (eqb-false k i t)) (h .inside i j y (rw (add-elsewhere k i x ls (eqb-false k i t)) at e)));
     }
 
-    inside-kept : (numbered : Bool) (s : Store) → Inside pool (s .literals) → Inside pool (kept numbered k x s .literals)
+    inside-kept : (numbered : Bool) (s : Store) → (numbered ≡ true → Keeps pool (textsOf pool (getD (s .literals) k [])) p x) → Inside pool (s .literals) → Inside pool (kept numbered k x s .literals)
     unfolding kept
-    inside-kept false s h = h
-    inside-kept true s h = by-lt (total (s .literals)) 4096
-        (λ l. rw (kept-more k x s l) (inside-added (s .literals) h)) (λ l. rw (kept-over k x s l) h)
+    inside-kept false s kp h = h
+    inside-kept true s kp h = by-lt (total (s .literals)) 4096
+        (λ l. rw (kept-more k x s l) (inside-added (s .literals) (kp refl) h)) (λ l. rw (kept-over k x s l) h)
 
-    keep-does : (out : List ℕ) (core : ℕ) (numbered : Bool) {w w′ : List ℕ} → Ready pool w → Changes w w′ (kept numbered k x)
-        → Does pool w w′ out (Done core) (ok (emitLiteral numbered k (bytesAt pool x) (planOf pool out w core)))
-    keep-does out core numbered {w} {w′} g c =
-        let e : planOf pool out w′ core ≡ emitLiteral numbered k (bytesAt pool x) (planOf pool out w core) = ap (planIn pool out core) (c .store) ∙ literal-is out core numbered (storeOf w) in
-        along (ap ok (sym e)) (does-ok (record { small = g .small; good = c .good; inside = rw (c .store) (inside-kept numbered (storeOf w) (g .inside)) }) (c .outside))
+    keep-does : (out : List ℕ) (core : ℕ) (numbered : Bool) {w w′ : List ℕ} → (numbered ≡ true → Keeps pool (textsOf pool (getD (storeOf w .literals) k [])) p x) → Ready pool w → Changes w w′ (kept numbered k x)
+        → Does pool w w′ out (Done core) (ok (emitLiteral numbered k (bytesAt pool p) (planOf pool out w core)))
+    keep-does out core numbered {w} {w′} kp g c =
+        let e : planOf pool out w′ core ≡ emitLiteral numbered k (bytesAt pool p) (planOf pool out w core) = ap (planIn pool out core) (c .store) ∙ literal-is out core numbered (storeOf w) (λ n. ap (bytesAt pool) (kp n .place)) in
+        along (ap ok (sym e)) (does-ok (record { small = g .small; good = c .good; inside = rw (c .store) (inside-kept numbered (storeOf w) kp (g .inside)) }) (c .outside))
+
+-- a value changes no literal
+module _ (put : Bool) (k : ℕ) (bs : List ℕ) (p : Plan) {q : Plan} where
+  answered : (m : Answer (List ℕ)) (f : List ℕ → Plan) → ((o : List ℕ) → f o .literals ≡ p .literals) → (m >>= (λ o. ok (f o))) ≡ ok q → q .literals ≡ p .literals
+  unfolding _>>=_
+  answered (ok o) f h e = ap (λ (x : Plan). x .literals) (sym (ok-same e)) ∙ h o
+  answered (refuse r i) f h e = absurd-ok e
+
+  slot-literals : (b : Bool) (o : Option ℕ) → emitSlot b k bs o p ≡ ok q → q .literals ≡ p .literals
+  unfolding emitSlot
+  slot-literals b (some at) e = answered _ _ (λ o. refl) e
+  slot-literals false none e = ap (λ (x : Plan). x .literals) (sym (ok-same (sym (slot-new k bs p) ∙ e)))
+  slot-literals true none e = absurd-ok (sym (slot-none k bs p) ∙ e)
+
+  bytes-literals : (inline : Bool) → emitBytes put inline k bs p ≡ ok q → q .literals ≡ p .literals
+  unfolding emitBytes emitCore
+  bytes-literals true e = answered _ _ (λ o. refl) e
+  bytes-literals false e = slot-literals put (lookup k (p .slots)) e
+
+texts-at : (pool : List ℕ) (k : ℕ) (ls : List (List Place)) → getD (map (λ l. textsOf pool l) ls) k [] ≡ textsOf pool (getD ls k [])
+texts-at pool k ls = List·getD-map (λ l. textsOf pool l) ls k []
 
 -- ---- a literal
 
@@ -133,9 +147,18 @@ module _ (put inline numbered : Bool) (k core : ℕ) {pool w out : List ℕ} (x 
     pub literal-good : {end : ℕ} → r₂ ≡ Done end → Good w₁
     literal-good q = does-done _ then q .ready .good
 
-    pub literal-done : {end : ℕ} {w₂ : List ℕ} → r₂ ≡ Done end → Changes w₁ w₂ (kept numbered k x) → EmitsText inline numbered k pool w w₂ out₂ (Done end) written
-    unfolding emitChoice
-    literal-done {end} q c = record { does = λ modes held i n. does-then _ _ first q₁ (rw (i, n) (does-then _ _ then q (keep-does pool k x given out₂ end numbered (does-done _ then q .ready) c))) }
+    module _ {end : ℕ} {w₂ : List ℕ} {y : Place} (q : r₂ ≡ Done end) (kp : numbered ≡ true → Keeps pool (textsOf pool (getD (storeOf w .literals) k [])) x y) (c : Changes w₁ w₂ (kept numbered k y)) where
+      same-texts : textsOf pool (getD (storeOf w .literals) k []) ≡ textsOf pool (getD (storeOf w₁ .literals) k [])
+      same-texts =
+          let e = bytes-literals put k (bytesAt pool x) (planOf pool out₁ w next) inline (does-done _ then q .is) in
+          sym (texts-at pool k (storeOf w .literals)) ∙ ap (λ (ls : List (List Text)). getD ls k []) (sym e) ∙ texts-at pool k (storeOf w₁ .literals)
+
+      pub literal-done : EmitsText inline numbered k pool w w₂ out₂ (Done end) written
+      unfolding emitChoice
+      literal-done = record {
+        does = λ modes held i n.
+            does-then _ _ first q₁ (rw (i, n) (does-then _ _ then q (keep-does pool k y x given out₂ end numbered (λ t. rw same-texts at (kp t)) (does-done _ then q .ready) c)));
+      }
 
 -- ---- a text
 
@@ -148,20 +171,24 @@ module _ (numbered : Bool) (v : Text) (l : List Text) where
   unfolding choose
   choose-so b e = rw (not-false numbered b) e
 
-pub found-small : {f : Found} {j : ℕ} → Small f → f ≡ Number j → j < 4096
+pub not-numbered : {numbered : Bool} {P : Type 0} → not numbered ≡ true → numbered ≡ true → P
+not-numbered {numbered} b n = absurd-bool (sym (not-true numbered b) ∙ n)
+
+pub found-small : {f f′ : Found} → Small f → f ≡ f′ → Small f′
 found-small h q = subst (λ (f : Found). Small f) q h
 
-module _ (put inline numbered : Bool) (k core : ℕ) (pool w out : List ℕ) (x : Place) (f : Found) (c : number f ≡ choose numbered (bytesAt pool x) (map (bytesAt pool) (getD (storeOf w .literals) k []))) where
+pub found-kept : (pool : List ℕ) (ts : List Text) (p : Place) {f f′ : Found} → Kept pool ts p f → f ≡ f′ → Kept pool ts p f′
+found-kept pool ts p h q = subst (λ (f : Found). Kept pool ts p f) q h
+
+module _ (put inline numbered : Bool) (k core : ℕ) (pool w out : List ℕ) (x : Place) (f : Found) (c : number f ≡ choose numbered (bytesAt pool x) (textsOf pool (getD (storeOf w .literals) k []))) where
   abbrev row : ℕ → (ℕ → Held) → Answer Plan
   row modes held = emitEvent put modes held (record { front = none; body = text k (bytesAt pool x) }) (planOf pool out w core)
 
   row-by : {o : Option ℕ} (modes : ℕ) (held : ℕ → Held) → isNumbered modes (held k) ≡ numbered → number f ≡ o → row modes held ≡ emitChoice put modes held k (bytesAt pool x) o (planOf pool out w core)
   unfolding emitEvent emitFront emitBody emitText _>>=_
-  row-by modes held n e =
-      let l : getD (map (λ l. map (bytesAt pool) l) (storeOf w .literals)) k [] ≡ map (bytesAt pool) (getD (storeOf w .literals) k []) = List·getD-map (λ l. map (bytesAt pool) l) (storeOf w .literals) k [] in
-      rw (n, l, ← c, e)
+  row-by modes held n e = rw (n, texts-at pool k (storeOf w .literals), ← c, e)
 
-  pub row-out : {w′ out′ : List ℕ} {r : Step} → f ≡ Nothing → EmitsText inline numbered k pool w w′ out′ r (λ modes held. emitChoice put modes held k (bytesAt pool x) none (planOf pool out w core)) → EmitsText inline numbered k pool w w′ out′ r row
+  pub row-out : {w′ out′ : List ℕ} {r : Step} {first second : ℕ} → f ≡ Nothing first second → EmitsText inline numbered k pool w w′ out′ r (λ modes held. emitChoice put modes held k (bytesAt pool x) none (planOf pool out w core)) → EmitsText inline numbered k pool w w′ out′ r row
   row-out q d = record { does = λ modes held i n. along (row-by modes held n (ap number q)) (d .does modes held i n) }
 
   pub row-named : {j : ℕ} {out′ : List ℕ} {r : Step} → f ≡ Number j → Ready pool w → Puts put core (label (numberLabel j)) out out′ r → EmitsText inline numbered k pool w w out′ r row

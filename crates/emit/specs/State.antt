@@ -8,13 +8,12 @@ use lib.ListN.{length}
 use Rattle.format.specs.Answer.{Answer, ok, refuse}
 use Rattle.format.specs.Modes.{inlineEverything}
 use Rattle.format.specs.Table.{Held}
-use Rattle.format.specs.Row.{bytesAt}
 use Rattle.format.specs.Write.{Event}
 use Rattle.store.specs.Store.{Store}
 use Rattle.store.specs.Words.{word, storeOf, Good}
 use Rattle.plan.specs.Plan.{Plan, putBytes, emitEvent}
 use Rattle.plan.specs.Slots.{under, most}
-use Rattle.search.specs.Search.{Inside}
+use Rattle.search.specs.Search.{textsOf, Inside}
 use Rattle.emit.specs.declared.Step.{Step}
 use Rattle.emit.specs.declared.Step.the-variants.{Done, Refused}
 
@@ -24,7 +23,7 @@ planIn pool out core s = record {
   out = out;
   core = core;
   slots = under (λ p. p .at) (s .slots);
-  literals = map (λ l. map (bytesAt pool) l) (s .literals);
+  literals = map (λ l. textsOf pool l) (s .literals);
   over = ltb 0 (s .rest .at);
 }
 

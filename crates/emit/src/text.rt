@@ -1,6 +1,7 @@
 // A text: the number of an equal literal of its key, or a literal.
 ghost use mathlib.Core.Path.{_≡_};
-ghost use mathlib.Core.List.{[], map};
+ghost use mathlib.Core.Bool.{true};
+ghost use mathlib.Core.List.{[]};
 ghost use mathlib.Core.Option.{none};
 ghost use Prim.Native.Nat.{_+_, _<_, _≤_, _^_};
 ghost use lib.ListN.{length, getD};
@@ -9,7 +10,7 @@ ghost use Rattle.format.specs.Read.{numberLabel};
 ghost use Rattle.format.specs.Write.{text, choose as chooseOf};
 ghost use Rattle.store.specs.Words.{storeOf, Good, Changes};
 ghost use Rattle.plan.specs.Plan.{emitChoice, emitEvent};
-ghost use Rattle.search.specs.Search.{number as numberIn, Inside, Small};
+ghost use Rattle.search.specs.Search.{number as numberIn, textsOf, Inside, Small, Kept, Keeps};
 ghost use Rattle.emit.specs.State.{planOf, Ready, Within};
 ghost use Rattle.emit.specs.Text.{kept, EmitsText};
 use super::Step;
@@ -27,20 +28,21 @@ fn number_label(j: usize) -> i64
 
 // The literal to name in place of the text. Without deduplication there is none.
 fn choose(pool: &[u8], work: &[u32], numbered: bool, key: usize, start: usize, size: usize) -> Found
-    requires { ⌜ (Good (now work)) × (Inside (now pool) (storeOf (now work) .literals)) × (key < 32) × (start + size ≤ length (now pool)) ⌝ }
-    ensures { λ r. ⌜ numberIn r ≡ chooseOf numbered (bytesAt (now (pool .entry)) (record { start = start; size = size })) (map (bytesAt (now (pool .entry))) (getD (storeOf (now (work .entry)) .literals) key [])) ⌝ }
+    requires { ⌜ (Good (now work)) × (Inside (now pool) (storeOf (now work) .literals)) × (key < 32) × (start + size ≤ length (now pool)) × (length (now pool) ≤ 65536) ⌝ }
+    ensures { λ r. ⌜ numberIn r ≡ chooseOf numbered (bytesAt (now (pool .entry)) (record { start = start; size = size })) (textsOf (now (pool .entry)) (getD (storeOf (now (work .entry)) .literals) key [])) ⌝ }
     ensures { λ r. ⌜ Small r ⌝ }
+    ensures { λ r. ⌜ (numbered ≡ true → Kept (now (pool .entry)) (textsOf (now (pool .entry)) (getD (storeOf (now (work .entry)) .literals) key [])) (record { start = start; size = size }) r) ⌝ }
 {
     if !numbered {
-        return Found::Nothing;
+        return Found::Nothing(start, size);
     }
     search::choose(pool, work, key, start, size)
 }
 
-// Keeps a literal that takes a number; after 4,096 of them it notes that there was one too many.
-fn keep(work: &mut [u32], numbered: bool, key: usize, start: usize, size: usize)
-    requires { ⌜ (Good (now work)) × (key < 32) × (start < 2 ^ 32) × (size < 2 ^ 32) ⌝ }
-    ensures { λ _. ⌜ Changes (now (work .entry)) (now (work .exit)) (kept numbered key (record { start = start; size = size })) ⌝ }
+// Keeps a literal that takes a number, by two words; after 4,096 of them it notes that there was one too many.
+fn keep(work: &mut [u32], numbered: bool, key: usize, first: usize, second: usize)
+    requires { ⌜ (Good (now work)) × (key < 32) × (first < 2 ^ 32) × (second < 2 ^ 32) ⌝ }
+    ensures { λ _. ⌜ Changes (now (work .entry)) (now (work .exit)) (kept numbered key (record { start = first; size = second })) ⌝ }
 {
     if !numbered {
         return;
@@ -49,10 +51,10 @@ fn keep(work: &mut [u32], numbered: bool, key: usize, start: usize, size: usize)
         store::set_rest(work, 1, 0);
         return;
     }
-    store::add(work, key, start, size);
+    store::add(work, key, first, second);
 }
 
-// Writes the text out: its length in the core, and its bytes.
+// Writes the text out: its length in the core, and its bytes. If it takes a number, it is kept by the words `first` and `second`.
 fn literal(
     pool: &[u8],
     out: &mut [u8],
@@ -64,8 +66,11 @@ fn literal(
     key: usize,
     start: usize,
     size: usize,
+    first: usize,
+    second: usize,
 ) -> Step
-    requires { ⌜ (Ready (now pool) (now work)) × (Within (2 ^ 30) core (now work)) × (key < 32) × (start + size ≤ length (now pool)) ⌝ }
+    requires { ⌜ (Ready (now pool) (now work)) × (Within (2 ^ 30) core (now work)) × (key < 32) × (start + size ≤ length (now pool)) × (first < 2 ^ 32) × (second < 2 ^ 32)
+        × (numbered ≡ true → Keeps (now pool) (textsOf (now pool) (getD (storeOf (now work) .literals) key [])) (record { start = start; size = size }) (record { start = first; size = second })) ⌝ }
     ensures { λ r. ⌜ EmitsText inline numbered key (now (pool .entry)) (now (work .entry)) (now (work .exit)) (now (out .exit)) r
         (λ modes held. emitChoice put modes held key (bytesAt (now (pool .entry)) (record { start = start; size = size })) none (planOf (now (pool .entry)) (now (out .entry)) (now (work .entry)) core)) ⌝ }
 {
@@ -77,7 +82,7 @@ fn literal(
     let Step::Done(end) = step else {
         return step;
     };
-    keep(work, numbered, key, start, size);
+    keep(work, numbered, key, first, second);
     Step::Done(end)
 }
 
@@ -98,8 +103,9 @@ pub fn emit_text(
     ensures { λ r. ⌜ EmitsText inline numbered key (now (pool .entry)) (now (work .entry)) (now (work .exit)) (now (out .exit)) r
         (λ modes held. emitEvent put modes held (record { front = none; body = text key (bytesAt (now (pool .entry)) (record { start = start; size = size })) }) (planOf (now (pool .entry)) (now (out .entry)) (now (work .entry)) core)) ⌝ }
 {
-    let Found::Number(j) = choose(pool, work, numbered, key, start, size) else {
-        return literal(
+    match choose(pool, work, numbered, key, start, size) {
+        Found::Number(j) => bytes::put_label(out, put, core, number_label(j)),
+        Found::Nothing(first, second) => literal(
             pool,
             out,
             work,
@@ -110,7 +116,8 @@ pub fn emit_text(
             key,
             start,
             size,
-        );
-    };
-    bytes::put_label(out, put, core, number_label(j))
+            first,
+            second,
+        ),
+    }
 }

@@ -1,3 +1,4 @@
--- What a search answers and asks, and parts of the pool.
+-- What a search learns, what it answers and asks, and parts of the pool.
+pub mod Front
 pub mod Search
 pub mod Parts

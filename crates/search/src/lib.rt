@@ -1,32 +1,53 @@
 // The earlier literal of a key that has the same bytes as a text.
 ghost use mathlib.Core.Path.{_≡_};
-ghost use mathlib.Core.List.{[], map};
-ghost use Prim.Native.Nat.{_+_, _<_, _≤_};
+ghost use mathlib.Core.List.{[]};
+ghost use Prim.Native.Nat.{_+_, _/_, _%_, _<_, _≤_};
 ghost use lib.ListN.{length, getD};
 ghost use Rattle.format.specs.Row.{bytesAt};
 ghost use Rattle.format.specs.Write.{firstEqual};
 ghost use Rattle.store.specs.Words.{storeOf, Good};
-ghost use Rattle.search.specs.Search.{number, Inside, Small};
+ghost use Rattle.search.specs.Front.{alike as alikeOf};
+ghost use Rattle.search.specs.Search.{number, Inside, Small, Kept, textsOf};
 
+// A kept word has a place in its bits below this one, and a part of the front above.
+const SPAN: usize = 131072;
+
+// The literal's number, or the two words to keep the text by.
 pub enum Found {
     Number(usize),
-    Nothing,
+    Nothing(usize, usize),
+}
+
+// Whether a kept literal may equal a text of `size` bytes with this front.
+fn alike(first: usize, second: usize, size: usize, near: usize, pairs: usize) -> bool
+    requires { ⌜ (size ≤ 65536) × (pairs ≤ 65536) ⌝ }
+    ensures { λ r. ⌜ r ≡ alikeOf size (record { near = near; pairs = pairs }) (second % 131072) (record { near = first / 131072; pairs = second / 131072 }) ⌝ }
+{
+    if second != size + SPAN * pairs {
+        return false;
+    }
+    first / SPAN == near
 }
 
 // The number of the key's first literal that equals the `size` bytes of the pool from `start`.
+// Bytes are compared only with a literal that is alike, from where they are not known to be equal.
 pub fn choose(pool: &[u8], work: &[u32], key: usize, start: usize, size: usize) -> Found
-    requires { ⌜ (Good (now work)) × (Inside (now pool) (storeOf (now work) .literals)) × (key < 32) × (start + size ≤ length (now pool)) ⌝ }
-    ensures { λ r. ⌜ number r ≡ firstEqual (bytesAt (now (pool .entry)) (record { start = start; size = size })) (map (bytesAt (now (pool .entry))) (getD (storeOf (now (work .entry)) .literals) key [])) ⌝ }
+    requires { ⌜ (Good (now work)) × (Inside (now pool) (storeOf (now work) .literals)) × (key < 32) × (start + size ≤ length (now pool)) × (length (now pool) ≤ 65536) ⌝ }
+    ensures { λ r. ⌜ number r ≡ firstEqual (bytesAt (now (pool .entry)) (record { start = start; size = size })) (textsOf (now (pool .entry)) (getD (storeOf (now (work .entry)) .literals) key [])) ⌝ }
     ensures { λ r. ⌜ Small r ⌝ }
+    ensures { λ r. ⌜ Kept (now (pool .entry)) (textsOf (now (pool .entry)) (getD (storeOf (now (work .entry)) .literals) key [])) (record { start = start; size = size }) r ⌝ }
 {
     let n = store::count(work, key);
+    let mut near = 0;
+    let mut pairs = 0;
     let mut j = 0;
     'search: while j < n {
         let literal = store::get(work, key, j);
-        let from = literal.start;
-        let len = literal.size;
-        if len == size {
-            let mut k = 0;
+        let first = literal.start;
+        let second = literal.size;
+        if alike(first, second, size, near, pairs) {
+            let from = first % SPAN;
+            let mut k = 2 * pairs;
             loop {
                 if k == size {
                     break 'search;
@@ -36,12 +57,14 @@ pub fn choose(pool: &[u8], work: &[u32], key: usize, start: usize, size: usize) 
                 }
                 k += 1;
             }
+            near = j;
+            pairs = k / 2;
         }
         j += 1;
     }
     if j < n {
         Found::Number(j)
     } else {
-        Found::Nothing
+        Found::Nothing(start + SPAN * near, size + SPAN * pairs)
     }
 }
