@@ -1,9 +1,13 @@
 -- What was read, and then its row: for each kind of value that has nothing below it. Assumes nothing.
+use native.Mathlib.Omega.{arith}
+use denote.Enum.Declared.{tagOf}
+use types.Run.{OneOf}
 use mathlib.Core.Path.{_≡_, refl, sym, ap}
 use mathlib.Core.Bool.{Bool, true, false}
+use mathlib.Core.Logic.{inl, inr}
 use mathlib.Core.List.{List, [], _∷_}
 use mathlib.Core.Option.{Option}
-use Prim.Native.Nat.{ℕ}
+use Prim.Native.Nat.{ℕ, _≤_}
 use lib.IntN.{ℤ, pos}
 use lib.ListN.{length, take, drop}
 use Rattle.format.specs.Answer.{Answer, ok, refuse, _>>=_, _>>_, needAt}
@@ -26,7 +30,9 @@ use Rattle.leaf.specs.Answers.{bind-then}
 use Rattle.leaf.specs.State.{mostRows, Walks, Does, Took, Takes}
 use Rattle.leaf.specs.Does.{along, refuses}
 use Rattle.leaf.specs.Takes.{took-ready, took-inside, then-does, then-refuses}
-use Rattle.leaf.specs.Meaning.{frontOf, labelOf, partOf, numberOf}
+use Rattle.leaf.specs.Meaning.{frontOf, labelOf, partOf, numberOf, heldLeaf, textRow}
+use Rattle.table.proofs.nodes.Leaf.{the-type}
+use Rattle.table.specs.declared.nodes.Leaf as code
 use Rattle.leaf.specs.Contracts.{Owns, Bare, PutsRow, PutsPart, Boolean, Unlabelled, textOf}
 
 -- something was read, and its row is put behind it
@@ -134,6 +140,20 @@ module _ (m : List ℕ) (modes key : ℕ) (h : Held) (front : Option ℤ) (w : L
   pub bytes-row : x ≡ bytes → PutsPart n bytesRow r l l₁ s → Walks m w w₁ c n l l₁ s (leaf (inMessage m) modes (λ k. h) key x front)
   unfolding leaf
   bytes-row e p = rw e (along (sym (bind-then _ _ _ _ (λ x. refl))) (p .does m w w₁ _ (t .took (mostRows (length l)) n)))
+
+-- a tag that is none of theirs
+no-text : (tag : ℕ) → OneOf (0 ∷ 3 ∷ []) tag → 1 ≤ tag → (tag ≡ 3 → ⊥) → ⊥
+no-text tag (inl q) a b = omega (arith, a)
+no-text tag (inr q) a b = b q
+
+-- either of them: the tags are those of the code's `String` and `Bytes`
+module _ (m : List ℕ) (modes key : ℕ) (h : Held) (front : Option ℤ) (w : List ℕ) (c : Cursor) (n : ℕ) {w₁ l l₁ : List ℕ} {r : Part} {s : Step} (t : Takes m w w₁ c (partOf r) (textOf m modes h key front)) where
+  pub text-row : {kind : ℕ} (v : code.Leaf) → OneOf (0 ∷ 3 ∷ []) (tagOf the-type v) → kind ≡ textRow (heldLeaf v) → PutsPart n kind r l l₁ s → Walks m w w₁ c n l l₁ s (leaf (inMessage m) modes (λ k. h) key (heldLeaf v) front)
+  text-row code.the-variants.String k e p = string-row m modes key h front w c n t refl (rw e at p)
+  text-row code.the-variants.Bytes k e p = bytes-row m modes key h front w c n t refl (rw e at p)
+  text-row code.the-variants.Varint k e p = absurd (no-text 1 k (omega arith) (λ q. omega (arith, q)))
+  text-row code.the-variants.Float64 k e p = absurd (no-text 2 k (omega arith) (λ q. omega (arith, q)))
+  text-row (code.the-variants.Fixed size) k e p = absurd (no-text 4 k (omega arith) (λ q. omega (arith, q)))
 
 pub unlabelled : {m : List ℕ} {modes key : ℕ} {x y : Leaf} {front : Front} {w w₁ : List ℕ} {c : Cursor} {n : ℕ} {l l₁ : List ℕ} {s : Step} (held : ℕ → Held) → x ≡ y → Unlabelled m modes key y front w w₁ c n l l₁ s
     → Walks m w w₁ c n l l₁ s (leaf (inMessage m) modes held key x (frontOf front))

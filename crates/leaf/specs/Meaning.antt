@@ -7,7 +7,7 @@ use Prim.Native.Nat.{ℕ, _+_, _≤_}
 use lib.IntN.{ℤ, pos, negsuc}
 use lib.ListN.{length}
 use Rattle.format.specs.Answer.{Answer, ok, refuse}
-use Rattle.format.specs.Row.{Place}
+use Rattle.format.specs.Row.{Place, stringRow, bytesRow}
 use Rattle.format.specs.Table.{Leaf, string, varint, float64, bytes, fixed, Held}
 use Rattle.label.specs.declared.cursor.Cursor.{Cursor}
 use Rattle.label.specs.declared.cursor.Label as label
@@ -56,3 +56,11 @@ heldLeaf (code.the-variants.Fixed n) = fixed n
 
 abbrev pub heldOf : code.Leaf → Bool → Held
 heldOf leaf dedup = record { leaf = heldLeaf leaf; dedup = dedup }
+
+-- the kind of a text's row
+abbrev pub textRow : Leaf → ℕ
+textRow string = stringRow
+textRow bytes = bytesRow
+textRow varint = bytesRow
+textRow float64 = bytesRow
+textRow (fixed n) = bytesRow

@@ -1,10 +1,11 @@
 // Reading one value that has nothing below it: its label and its bytes, and the row that shows it.
+ghost use mathlib.Core.Path.{_≡_};
 ghost use Prim.Native.Nat.{_≤_, _<_};
 ghost use Rattle.format.specs.Read.{inMessage, leaf as leafOf};
 ghost use Rattle.format.specs.Table.{varint as varintLeaf, float64 as floatLeaf, fixed as fixedLeaf};
 ghost use Rattle.pieces.specs.Pieces.{Inside};
 ghost use Rattle.leaf.specs.State.{Ready, Walks};
-ghost use Rattle.leaf.specs.Meaning.{frontOf, heldLeaf, heldOf};
+ghost use Rattle.leaf.specs.Meaning.{frontOf, heldLeaf, heldOf, textRow};
 ghost use Rattle.leaf.specs.Contracts.{PutsPart, Boolean, Unlabelled};
 use block::Number;
 use block::Part;
@@ -124,6 +125,19 @@ fn fixed(
     )
 }
 
+// The kind of a text's row.
+fn text_kind(leaf: Leaf) -> u64
+    ensures { λ r. ⌜ r ≡ textRow (heldLeaf leaf) ⌝ }
+{
+    match leaf {
+        Leaf::String => kind::STRING,
+        Leaf::Bytes => kind::BYTES,
+        Leaf::Varint => kind::BYTES,
+        Leaf::Float64 => kind::BYTES,
+        Leaf::Fixed(_) => kind::BYTES,
+    }
+}
+
 // The value of a key, which holds `leaf` and deduplicates or not.
 pub fn read_leaf(
     m: &[u8],
@@ -142,13 +156,9 @@ pub fn read_leaf(
         (leafOf (inMessage (now (m .entry))) modes (λ k. heldOf leaf dedup) key (heldLeaf leaf) (frontOf front)) ⌝ }
 {
     match leaf {
-        Leaf::String => {
+        Leaf::String | Leaf::Bytes => {
             let part = text::text(m, work, modes, key, leaf, dedup, front, c);
-            put_part(rows, n, kind::STRING, part)
-        }
-        Leaf::Bytes => {
-            let part = text::text(m, work, modes, key, leaf, dedup, front, c);
-            put_part(rows, n, kind::BYTES, part)
+            put_part(rows, n, text_kind(leaf), part)
         }
         Leaf::Varint => varint(m, rows, work, modes, key, front, c, n),
         Leaf::Float64 => float64(m, rows, work, modes, key, front, c, n),

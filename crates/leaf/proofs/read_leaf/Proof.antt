@@ -1,38 +1,29 @@
--- `leaf::read_leaf` meets its contract. Assumes nothing.
+-- `leaf::read_leaf` meets its contract.
 use mathlib.Core.Path.{ap}
 use denote.Ref.{now}
 use borrow.Author.Needs.{needs}
 use Rattle.leaf.specs.Meaning.{frontOf, heldLeaf, heldOf}
-use Rattle.leaf.proofs.Leaves.{string-row, bytes-row, unlabelled}
+use Rattle.leaf.proofs.Leaves.{text-row, unlabelled}
 use Rattle.leaf.proofs.read_leaf.Statement.{statement}
 use Rattle.leaf.proofs.read_leaf.Tie as tie
-
-enum-told : tie.Need-enum-told
-enum-told c = search needs
 
 text-requires : tie.Need-text-requires
 text-requires c κs = search needs
 
+text-kind-requires : tie.Need-text-kind-requires
+text-kind-requires c κs = search needs
+
 put-part-requires : tie.Need-put-part-requires
 put-part-requires c κs = search needs
 
-enum-told-2 : tie.Need-enum-told-2
-enum-told-2 c = search needs
-
-text-requires-2 : tie.Need-text-requires-2
-text-requires-2 c κs = search needs
-
-put-part-requires-2 : tie.Need-put-part-requires-2
-put-part-requires-2 c κs = search needs
-
-enum-told-3 : tie.Need-enum-told-3
-enum-told-3 c = search needs
+enum-told : tie.Need-enum-told
+enum-told c = search needs
 
 varint-requires : tie.Need-varint-requires
 varint-requires c κs = search needs
 
-enum-told-4 : tie.Need-enum-told-4
-enum-told-4 c = search needs
+enum-told-2 : tie.Need-enum-told-2
+enum-told-2 c = search needs
 
 float64-requires : tie.Need-float64-requires
 float64-requires c κs = search needs
@@ -52,11 +43,12 @@ same-length-2 c = search needs
 returns : tie.Need-returns
 returns c =
     let c2 = c .before .before in
-    let c6 = c2 .before .before .before .before in
-    let c8 = c6 .before .before in
-    let c13 = c8 .before .before .before .before .before in
+    let c3 = c2 .before in
+    let c7 = c3 .before .before .before .before in
+    let c9 = c7 .before .before in
+    let c13 = c9 .before .before .before .before in
     let a = c13 .args in
-    string-row (now (a .m)) (a .modes) (a .key) (heldOf (a .leaf) (a .dedup)) (frontOf (a .front)) (now (a .work)) (a .c) (a .n) (c6 .text .ensures) (ap heldLeaf (c8 .enum-told .given .1))
+    text-row (now (a .m)) (a .modes) (a .key) (heldOf (a .leaf) (a .dedup)) (frontOf (a .front)) (now (a .work)) (a .c) (a .n) (c7 .text .ensures) (a .leaf) (c9 .match .keys1) (c3 .text-kind .ensures)
     (c2 .put-part .ensures)
 
 same-length-3 : tie.Need-same-length-3
@@ -67,13 +59,11 @@ same-length-4 c = search needs
 
 returns-2 : tie.Need-returns-2
 returns-2 c =
-    let c2 = c .before .before in
-    let c6 = c2 .before .before .before .before in
-    let c8 = c6 .before .before in
-    let c13 = c8 .before .before .before .before .before in
-    let a = c13 .args in
-    bytes-row (now (a .m)) (a .modes) (a .key) (heldOf (a .leaf) (a .dedup)) (frontOf (a .front)) (now (a .work)) (a .c) (a .n) (c6 .text2 .ensures) (ap heldLeaf (c8 .enum-told2 .given .1))
-    (c2 .put-part2 .ensures)
+    let c4 = c .before .before .before .before in
+    let c7 = c4 .before .before .before in
+    let c12 = c7 .before .before .before .before .before in
+    let a = c12 .args in
+    unlabelled (λ k. heldOf (a .leaf) (a .dedup)) (ap heldLeaf (c7 .enum-told .given .1)) (c4 .varint .ensures)
 
 same-length-5 : tie.Need-same-length-5
 same-length-5 c = search needs
@@ -87,7 +77,7 @@ returns-3 c =
     let c7 = c4 .before .before .before in
     let c12 = c7 .before .before .before .before .before in
     let a = c12 .args in
-    unlabelled (λ k. heldOf (a .leaf) (a .dedup)) (ap heldLeaf (c7 .enum-told3 .given .1)) (c4 .varint .ensures)
+    unlabelled (λ k. heldOf (a .leaf) (a .dedup)) (ap heldLeaf (c7 .enum-told2 .given .1)) (c4 .float64 .ensures)
 
 same-length-7 : tie.Need-same-length-7
 same-length-7 c = search needs
@@ -98,20 +88,6 @@ same-length-8 c = search needs
 returns-4 : tie.Need-returns-4
 returns-4 c =
     let c4 = c .before .before .before .before in
-    let c7 = c4 .before .before .before in
-    let c12 = c7 .before .before .before .before .before in
-    let a = c12 .args in
-    unlabelled (λ k. heldOf (a .leaf) (a .dedup)) (ap heldLeaf (c7 .enum-told4 .given .1)) (c4 .float64 .ensures)
-
-same-length-9 : tie.Need-same-length-9
-same-length-9 c = search needs
-
-same-length-10 : tie.Need-same-length-10
-same-length-10 c = search needs
-
-returns-5 : tie.Need-returns-5
-returns-5 c =
-    let c4 = c .before .before .before .before in
     let c8 = c4 .before .before .before .before in
     let c13 = c8 .before .before .before .before .before in
     let a = c13 .args in
@@ -121,15 +97,12 @@ pub read-leaf-spec : {M : Type 1} → statement M
 read-leaf-spec =
     tie.close
     (tie.spec
-    enum-told
     text-requires
+    text-kind-requires
     put-part-requires
-    enum-told-2
-    text-requires-2
-    put-part-requires-2
-    enum-told-3
+    enum-told
     varint-requires
-    enum-told-4
+    enum-told-2
     float64-requires
     enum-known-leaf
     fixed-requires
@@ -144,7 +117,4 @@ read-leaf-spec =
     returns-3
     same-length-7
     same-length-8
-    returns-4
-    same-length-9
-    same-length-10
-    returns-5)
+    returns-4)
