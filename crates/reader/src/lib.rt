@@ -65,7 +65,7 @@ fn rows_of(table: &[u8], m: &[u8], rows: &mut [u64], work: &mut [u32]) -> Step
     let Begun::Core(core) = begin(m, work, modes) else {
         return Step::Refused(22);
     };
-    let r = walk::value(table, m, rows, work, modes, 0, false, core, 0, 32);
+    let r = walk::root(table, m, rows, work, modes, core);
     let Step::Done(end, _) = r else {
         return r;
     };

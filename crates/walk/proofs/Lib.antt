@@ -2,3 +2,4 @@ pub mod Opens
 pub mod Fronts
 pub mod Values
 pub mod Loops
+pub mod Runs

@@ -8,8 +8,8 @@ ghost use Rattle.format.specs.Table.{nodeAt, RECORD, ARRAY, BLOCK};
 ghost use Rattle.pieces.specs.Pieces.{Inside};
 ghost use Rattle.leaf.specs.State.{Ready};
 ghost use Rattle.leaf.specs.Meaning.{frontOf};
-ghost use Rattle.typed.specs.Typed.{Sized, FitsNode, FitsWire, FitFields};
-ghost use Rattle.walk.specs.Walk.{ReadsValue, ReadsWire, ReadsFields, ReadsEntries};
+ghost use Rattle.typed.specs.Typed.{Sized, FitsNode, FitsWire};
+ghost use Rattle.walk.specs.Walk.{ReadsValue, ReadsWire, ReadsRun, FitRun, absentIn, nextIn};
 
 pub mod opening;
 
@@ -58,7 +58,7 @@ fn block(
 
 // The value at a node, on a path of at most `left` nodes from here on. No path of a checked table has more than 32, so
 // that 33 never comes.
-pub fn value(
+fn value(
     table: &[u8],
     m: &[u8],
     rows: &mut [u64],
@@ -137,13 +137,17 @@ fn record(
     let Put::Next(next) = push::push(rows, n, kind::RECORD, count as u64, 0) else {
         return Step::Refused(31);
     };
-    fields(
+    if count == 0 {
+        return Step::Done(c, next);
+    }
+    run(
         table,
         m,
         rows,
         work,
         modes,
         node + 1,
+        false,
         c,
         next,
         left - 1,
@@ -176,13 +180,14 @@ fn array(
     let Put::Next(next) = push::push(rows, n, kind::ARRAY, count as u64, 0) else {
         return Step::Refused(31);
     };
-    entries(
+    run(
         table,
         m,
         rows,
         work,
         modes,
         node + 1,
+        true,
         core,
         next,
         left - 1,
@@ -190,29 +195,53 @@ fn array(
     )
 }
 
-// So many fields, the first of them at `node`.
-fn fields(
+// Of a value in a run: only a field may be absent.
+fn may_be_absent(table: &[u8], node: usize, repeated: bool) -> bool
+    requires { ⌜ 11 + 4 * node ≤ length (now table) ⌝ }
+    ensures { λ r. ⌜ r ≡ absentIn repeated (nodeAt (now (table .entry)) node) ⌝ }
+{
+    if repeated {
+        return false;
+    }
+    nodes::is_omittable(table, node)
+}
+
+// The node of the next value in a run.
+fn next_node(work: &[u32], node: usize, repeated: bool) -> usize
+    requires { ⌜ node < length (now work) ⌝ }
+    ensures { λ r. ⌜ r ≡ nextIn repeated node (now (work .entry)) ⌝ }
+{
+    if repeated {
+        return node;
+    }
+    nodes::end_at(work, node)
+}
+
+// So many values: entries, which all have the type at `node`, or fields, the first of them at `node`. One loop for both,
+// so that a call is made for what a record or an array holds, and none for each value.
+fn run(
     table: &[u8],
     m: &[u8],
     rows: &mut [u64],
     work: &mut [u32],
     modes: u64,
     node: usize,
+    repeated: bool,
     c: Cursor,
     n: usize,
     left: usize,
     count: usize,
 ) -> Step
-    requires { ⌜ Ready (now m) (now work) × Inside (now m) c × Sized (now table) × FitFields (now table) (now work) left node count ⌝ }
-    ensures { λ r. ⌜ ReadsFields (now (m .entry)) (now (work .entry)) (now (work .exit)) (now (rows .entry)) (now (rows .exit)) c n r (now (table .entry)) modes node count ⌝ }
+    requires { ⌜ Ready (now m) (now work) × Inside (now m) c × Sized (now table) × FitRun (now table) (now work) left node repeated count ⌝ }
+    ensures { λ r. ⌜ ReadsRun (now (m .entry)) (now (work .entry)) (now (work .exit)) (now (rows .entry)) (now (rows .exit)) c n r (now (table .entry)) modes node repeated count ⌝ }
 {
     let mut k = count;
     let mut at = node;
     let mut core = c;
     let mut i = n;
     while k != 0 {
-        let omittable = nodes::is_omittable(table, at);
-        let end = nodes::end_at(work, at);
+        let omittable = may_be_absent(table, at, repeated);
+        let end = next_node(work, at, repeated);
         let r = value(table, m, rows, work, modes, at, omittable, core, i, left);
         let Step::Done(after, written) = r else {
             return again(r);
@@ -225,34 +254,17 @@ fn fields(
     Step::Done(core, i)
 }
 
-// So many values of the type at `node`.
-fn entries(
+// The whole tree: the value at the table's root, from the first row on.
+pub fn root(
     table: &[u8],
     m: &[u8],
     rows: &mut [u64],
     work: &mut [u32],
     modes: u64,
-    node: usize,
     c: Cursor,
-    n: usize,
-    left: usize,
-    count: usize,
 ) -> Step
-    requires { ⌜ Ready (now m) (now work) × Inside (now m) c × Sized (now table) × FitsNode (now table) (now work) left node ⌝ }
-    ensures { λ r. ⌜ ReadsEntries (now (m .entry)) (now (work .entry)) (now (work .exit)) (now (rows .entry)) (now (rows .exit)) c n r (now (table .entry)) modes node count ⌝ }
+    requires { ⌜ Ready (now m) (now work) × Inside (now m) c × Sized (now table) × FitsNode (now table) (now work) 32 0 ⌝ }
+    ensures { λ r. ⌜ ReadsValue (now (m .entry)) (now (work .entry)) (now (work .exit)) (now (rows .entry)) (now (rows .exit)) c 0 r (now (table .entry)) modes 0 false ⌝ }
 {
-    let mut k = count;
-    let mut core = c;
-    let mut i = n;
-    while k != 0 {
-        let entry = core;
-        let r = value(table, m, rows, work, modes, node, false, entry, i, left);
-        let Step::Done(next, written) = r else {
-            return again(r);
-        };
-        core = next;
-        i = written;
-        k -= 1;
-    }
-    Step::Done(core, i)
+    run(table, m, rows, work, modes, 0, true, c, 0, 32, 1)
 }

@@ -3,35 +3,32 @@
 use borrow.Author.Needs.{needs}
 use native.Mathlib.Omega.{arith}
 use denote.Ref.{now}
-use mathlib.Core.Path.{ap, sym, _∙_}
+use mathlib.Core.Path.{refl, ap, sym, _∙_}
 use mir.Syntax.{w64}
 use mir.ValLaws.{toZ-ofZ}
 use lib.Dec.{eqb}
 use Prim.Native.Nat.{_+_, _*_}
 use Rattle.typed.specs.Nodes.{node-inside, wire-inside, block-inside, fits-entry}
-use Rattle.walk.proofs.Loops.{EntriesAt, entries-begin, entries-fits, entries-not, entries-again, entries-end, FieldsAt, fields-begin, fields-fits, fields-not, fields-again, fields-end}
+use Rattle.walk.proofs.Runs.{RunAt, run-entries, run-fields, run-begin, run-fits, run-not, run-again, run-end, no-fields}
 use Rattle.walk.proofs.Values.{value-refused, value-gone, value-here, opened-inside, value-fits, record-24, record-31, record-then, record-fits, array-23, array-24, array-31, array-then, own-inside, boolean-does}
 use Prim.Native.Nat.{ℕ, _<_}
 use borrow.Fn.Kinds.{In}
 use borrow.Fn.PlainCycle.{Measures, is, falls, and}
 use Rattle.walk.proofs.array.Reads as array
 use Rattle.walk.proofs.array.Kinds as array-kinds
-use Rattle.walk.proofs.+array+entries+fields+record+value+wire.Lts-array as array-lts
-use Rattle.walk.proofs.entries.Reads as entries
-use Rattle.walk.proofs.entries.Kinds as entries-kinds
-use Rattle.walk.proofs.+array+entries+fields+record+value+wire.Lts-entries as entries-lts
-use Rattle.walk.proofs.fields.Reads as fields
-use Rattle.walk.proofs.fields.Kinds as fields-kinds
-use Rattle.walk.proofs.+array+entries+fields+record+value+wire.Lts-fields as fields-lts
+use Rattle.walk.proofs.+array+record+run+value+wire.Lts-array as array-lts
+use Rattle.walk.proofs.run.Reads as run
+use Rattle.walk.proofs.run.Kinds as run-kinds
+use Rattle.walk.proofs.+array+record+run+value+wire.Lts-run as run-lts
 use Rattle.walk.proofs.record.Reads as «record»
 use Rattle.walk.proofs.record.Kinds as record-kinds
-use Rattle.walk.proofs.+array+entries+fields+record+value+wire.Lts-record as record-lts
+use Rattle.walk.proofs.+array+record+run+value+wire.Lts-record as record-lts
 use Rattle.walk.proofs.value.Reads as value
 use Rattle.walk.proofs.value.Kinds as value-kinds
-use Rattle.walk.proofs.+array+entries+fields+record+value+wire.Lts-value as value-lts
+use Rattle.walk.proofs.+array+record+run+value+wire.Lts-value as value-lts
 use Rattle.walk.proofs.wire.Reads as wire
 use Rattle.walk.proofs.wire.Kinds as wire-kinds
-use Rattle.walk.proofs.+array+entries+fields+record+value+wire.Lts-wire as wire-lts
+use Rattle.walk.proofs.+array+record+run+value+wire.Lts-wire as wire-lts
 use Rattle.leaf.proofs.boolean.Reads as boolean-reads
 use Rattle.leaf.proofs.front.is_bare.Reads as is-bare-reads
 use Rattle.leaf.proofs.front.own_label.Reads as own-label-reads
@@ -39,24 +36,21 @@ use Rattle.leaf.proofs.front.size_of.Reads as size-of-reads
 use Rattle.leaf.proofs.push.push.Reads as push-reads
 use Rattle.leaf.proofs.push.row.Reads as row-reads
 use Rattle.table.proofs.nodes.argument_at.Reads as argument-at-reads
-use Rattle.table.proofs.nodes.end_at.Reads as end-at-reads
-use Rattle.table.proofs.nodes.is_omittable.Reads as is-omittable-reads
 use Rattle.table.proofs.nodes.kind_at.Reads as kind-at-reads
 use Rattle.walk.proofs.again.Reads as again-reads
 use Rattle.walk.proofs.block.Reads as block-reads
+use Rattle.walk.proofs.may_be_absent.Reads as may-be-absent-reads
+use Rattle.walk.proofs.next_node.Reads as next-node-reads
 use Rattle.walk.proofs.opening.below.Reads as below-reads
 use Rattle.walk.proofs.opening.open.Reads as open-reads
-use Rattle.walk.proofs.+array+entries+fields+record+value+wire.{statement}
-use Rattle.walk.proofs.+array+entries+fields+record+value+wire.Tie.{close}
+use Rattle.walk.proofs.+array+record+run+value+wire.{statement}
+use Rattle.walk.proofs.+array+record+run+value+wire.Tie.{close}
 
 abbrev μ-array : Measures 4 array-kinds.ps ℕ
 μ-array κs a = 4 * a .1 .1 .1 .1 .1 .1 .1 .1 .1 .0
 
-abbrev μ-entries : Measures 4 entries-kinds.ps ℕ
-μ-entries κs a = 4 * a .1 .1 .1 .1 .1 .1 .1 .1 .0 + 3
-
-abbrev μ-fields : Measures 4 fields-kinds.ps ℕ
-μ-fields κs a = 4 * a .1 .1 .1 .1 .1 .1 .1 .1 .0 + 3
+abbrev μ-run : Measures 4 run-kinds.ps ℕ
+μ-run κs a = 4 * a .1 .1 .1 .1 .1 .1 .1 .1 .1 .0 + 3
 
 abbrev μ-record : Measures 4 record-kinds.ps ℕ
 μ-record κs a = 4 * a .1 .1 .1 .1 .1 .1 .1 .1 .1 .0
@@ -73,17 +67,11 @@ array-at t = and 4 array-kinds.ps (is 4 array-kinds.ps μ-array t) array.Pre
 abbrev array-below : ℕ → In 4 array-kinds.ps
 array-below t = and 4 array-kinds.ps (falls 4 array-kinds.ps _<_ μ-array t) array.Pre
 
-abbrev entries-at : ℕ → In 4 entries-kinds.ps
-entries-at t = and 4 entries-kinds.ps (is 4 entries-kinds.ps μ-entries t) entries.Pre
+abbrev run-at : ℕ → In 4 run-kinds.ps
+run-at t = and 4 run-kinds.ps (is 4 run-kinds.ps μ-run t) run.Pre
 
-abbrev entries-below : ℕ → In 4 entries-kinds.ps
-entries-below t = and 4 entries-kinds.ps (falls 4 entries-kinds.ps _<_ μ-entries t) entries.Pre
-
-abbrev fields-at : ℕ → In 4 fields-kinds.ps
-fields-at t = and 4 fields-kinds.ps (is 4 fields-kinds.ps μ-fields t) fields.Pre
-
-abbrev fields-below : ℕ → In 4 fields-kinds.ps
-fields-below t = and 4 fields-kinds.ps (falls 4 fields-kinds.ps _<_ μ-fields t) fields.Pre
+abbrev run-below : ℕ → In 4 run-kinds.ps
+run-below t = and 4 run-kinds.ps (falls 4 run-kinds.ps _<_ μ-run t) run.Pre
 
 abbrev record-at : ℕ → In 4 record-kinds.ps
 record-at t = and 4 record-kinds.ps (is 4 record-kinds.ps μ-record t) record.Pre
@@ -110,16 +98,13 @@ abbrev value-uses : ℕ → value-lts.Claims
 value-uses t = (kind-at-reads.Asked, kind-at-reads.Learnt, open-reads.Asked, open-reads.Learnt, row-reads.Asked, row-reads.Learnt, below-reads.Asked, below-reads.Learnt, wire-below t, wire.Post)
 
 abbrev record-uses : ℕ → record-lts.Claims
-record-uses t = (is-bare-reads.Asked, is-bare-reads.Learnt, argument-at-reads.Asked, argument-at-reads.Learnt, push-reads.Asked, push-reads.Learnt, fields-below t, fields.Post)
+record-uses t = (is-bare-reads.Asked, is-bare-reads.Learnt, argument-at-reads.Asked, argument-at-reads.Learnt, push-reads.Asked, push-reads.Learnt, run-below t, run.Post)
 
-abbrev fields-uses : ℕ → fields-lts.Claims
-fields-uses t = (is-omittable-reads.Asked, is-omittable-reads.Learnt, end-at-reads.Asked, end-at-reads.Learnt, value-below t, value.Post, again-reads.Asked, again-reads.Learnt)
-
-abbrev entries-uses : ℕ → entries-lts.Claims
-entries-uses t = (value-below t, value.Post, again-reads.Asked, again-reads.Learnt)
+abbrev run-uses : ℕ → run-lts.Claims
+run-uses t = (may-be-absent-reads.Asked, may-be-absent-reads.Learnt, next-node-reads.Asked, next-node-reads.Learnt, value-below t, value.Post, again-reads.Asked, again-reads.Learnt)
 
 abbrev array-uses : ℕ → array-lts.Claims
-array-uses t = (own-label-reads.Asked, own-label-reads.Learnt, size-of-reads.Asked, size-of-reads.Learnt, push-reads.Asked, push-reads.Learnt, entries-below t, entries.Post)
+array-uses t = (own-label-reads.Asked, own-label-reads.Learnt, size-of-reads.Asked, size-of-reads.Learnt, push-reads.Asked, push-reads.Learnt, run-below t, run.Post)
 
 array-own-label-requires : (t : ℕ) → array-lts.Need-own-label-requires (array-uses t) (array-at t) array.Post
 array-own-label-requires t c κs =
@@ -182,23 +167,23 @@ array-returns-3 t c =
     let a = c18 .args in
     array-31 (now (a .table)) (now (a .m)) (now (a .work)) (now (a .rows)) (a .modes) (a .node) (a .n) (a .front) (a .c) (c18 .pre .1 .4) (c18 .pre .1 .0) _ (c13 .own-label .ensures) (c11 .l .given .1) _ (c9 .size-of .ensures ∙ toZ-ofZ w64 (c11 .l .given .0 .0) (record { sfits = c10 .known-told .given .0 .1 })) (c7 .count .given .1) _ (c4 .push .ensures .0) (c .enum-told3 .given .1)
 
-array-add-entries : (t : ℕ) → array-lts.Need-add-entries (array-uses t) (array-at t) array.Post
-array-add-entries t c =
+array-add-run : (t : ℕ) → array-lts.Need-add-run (array-uses t) (array-at t) array.Post
+array-add-run t c =
     let c21 = c .before .before .before .before .before .before .before .before .before .before .before .before .before .before .before .before .before .before .before .before .before in
     omega (arith, wire-inside _ _ _ _ (c21 .pre .1 .3) (c21 .pre .1 .2) .1)
 
-array-sub-entries : (t : ℕ) → array-lts.Need-sub-entries (array-uses t) (array-at t) array.Post
-array-sub-entries t c =
+array-sub-run : (t : ℕ) → array-lts.Need-sub-run (array-uses t) (array-at t) array.Post
+array-sub-run t c =
     let c21 = c .before .before .before .before .before .before .before .before .before .before .before .before .before .before .before .before .before .before .before .before .before in
     omega (arith, wire-inside _ _ _ _ (c21 .pre .1 .3) (c21 .pre .1 .2) .0)
 
-array-entries-requires : (t : ℕ) → array-lts.Need-entries-requires (array-uses t) (array-at t) array.Post
-array-entries-requires t c κs =
+array-run-requires : (t : ℕ) → array-lts.Need-run-requires (array-uses t) (array-at t) array.Post
+array-run-requires t c κs =
     let c14 = c .before .before .before .before .before .before .before .before .before .before .before .before .before .before in
     let c16 = c14 .before .before in
     let c21 = c16 .before .before .before .before .before in
     let a = c21 .args in
-    (omega (arith, c21 .pre .0, wire-inside _ _ _ _ (c21 .pre .1 .3) (c21 .pre .1 .2) .0), (c21 .pre .1 .0, own-inside (now (a .table)) (now (a .m)) (now (a .work)) (now (a .rows)) (a .modes) (a .node) (a .n) (a .front) (a .c) (c21 .pre .1 .4) (c21 .pre .1 .0) _ (c16 .own-label .ensures) (c14 .l .given .1), c21 .pre .1 .2, fits-entry _ _ _ _ (c21 .pre .1 .3) (c21 .pre .1 .4)))
+    (omega (arith, c21 .pre .0, wire-inside _ _ _ _ (c21 .pre .1 .3) (c21 .pre .1 .2) .0), (c21 .pre .1 .0, own-inside (now (a .table)) (now (a .m)) (now (a .work)) (now (a .rows)) (a .modes) (a .node) (a .n) (a .front) (a .c) (c21 .pre .1 .4) (c21 .pre .1 .0) _ (c16 .own-label .ensures) (c14 .l .given .1), c21 .pre .1 .2, run-entries (fits-entry _ _ _ _ (c21 .pre .1 .3) (c21 .pre .1 .4))))
 
 array-same-length-2 : (t : ℕ) → array-lts.Need-same-length-2 (array-uses t) (array-at t) array.Post
 array-same-length-2 t c = search needs
@@ -218,152 +203,69 @@ array-returns-4 t c =
     let c21 = c19 .before .before in
     let c26 = c21 .before .before .before .before .before in
     let a = c26 .args in
-    array-then (now (a .table)) (now (a .m)) (now (a .work)) (now (a .rows)) (a .modes) (a .node) (a .n) (a .front) (a .c) (c26 .pre .1 .4) (c26 .pre .1 .0) _ (c21 .own-label .ensures) (c19 .l .given .1) _ (c17 .size-of .ensures ∙ toZ-ofZ w64 (c19 .l .given .0 .0) (record { sfits = c18 .known-told .given .0 .1 })) (c15 .count .given .1) _ (c12 .push .ensures .0) (c12 .push .ensures .1) (c8 .next .given .1) (c12 .push .kept .0) (c4 .entries .ensures)
+    array-then (now (a .table)) (now (a .m)) (now (a .work)) (now (a .rows)) (a .modes) (a .node) (a .n) (a .front) (a .c) (c26 .pre .1 .4) (c26 .pre .1 .0) _ (c21 .own-label .ensures) (c19 .l .given .1) _ (c17 .size-of .ensures ∙ toZ-ofZ w64 (c19 .l .given .0 .0) (record { sfits = c18 .known-told .given .0 .1 })) (c15 .count .given .1) _ (c12 .push .ensures .0) (c12 .push .ensures .1) (c8 .next .given .1) (c12 .push .kept .0) (c4 .run .ensures .entries refl)
 
-abbrev entries-Inv-loop : entries-lts.InvT-loop
-entries-Inv-loop table m rows₀ work₀ modes node n left count k₀ core₀ i₀ rows work k core i = EntriesAt table m work₀ rows₀ modes node count core₀ n work rows k core i
+abbrev run-Inv-loop : run-lts.InvT-loop
+run-Inv-loop table m rows₀ work₀ modes node repeated n left count k₀ at₀ core₀ i₀ rows work k at core i = RunAt table m work₀ rows₀ modes node repeated count core₀ n work rows k at core i
 
-abbrev entries-μ-loop : entries-lts.MeasureT-loop
-entries-μ-loop table m rows₀ work₀ modes node n left count k₀ core₀ i₀ rows work k core i = k
+abbrev run-μ-loop : run-lts.MeasureT-loop
+run-μ-loop table m rows₀ work₀ modes node repeated n left count k₀ at₀ core₀ i₀ rows work k at core i = k
 
-entries-loop-holds : (t : ℕ) → entries-lts.Need-loop-holds (entries-uses t) (entries-at t) entries.Post entries-Inv-loop entries-μ-loop
-entries-loop-holds t c =
+run-loop-holds : (t : ℕ) → run-lts.Need-loop-holds (run-uses t) (run-at t) run.Post run-Inv-loop run-μ-loop
+run-loop-holds t c =
     let c4 = c .before .before .before .before in
     let a = c4 .args in
-    entries-begin (now (a .table)) (now (a .m)) (now (a .work)) (now (a .rows)) (a .modes) (a .node) (a .count) (a .c) (a .n) (c4 .pre .1 .0) (c4 .pre .1 .1)
+    run-begin (now (a .table)) (now (a .m)) (now (a .work)) (now (a .rows)) (a .modes) (a .node) (a .repeated) (a .count) (a .c) (a .n) (c4 .pre .1 .0) (c4 .pre .1 .1)
 
-entries-value-requires : (t : ℕ) → entries-lts.Need-value-requires (entries-uses t) (entries-at t) entries.Post entries-Inv-loop entries-μ-loop
-entries-value-requires t c κs =
-    let c3 = c .before .before .before in
-    let c8 = c3 .before .before .before .before .before in
-    let a = c8 .args in
-    let x = c3 .loop in
-    (omega (arith, c8 .pre .0), (x .inv .ready, x .inv .inside, c8 .pre .1 .2, entries-fits (now (a .table)) (now (a .m)) (now (a .work)) (now (a .rows)) (a .modes) (a .node) (a .count) (a .c) (a .n) (x .work) (x .rows) (x .k) (x .core) (x .i) (x .inv) (c8 .pre .1 .2) (c8 .pre .1 .3)))
-
-entries-enum-known-r : (t : ℕ) → entries-lts.Need-enum-known-r (entries-uses t) (entries-at t) entries.Post entries-Inv-loop entries-μ-loop
-entries-enum-known-r t c = search needs
-
-entries-enum-told : (t : ℕ) → entries-lts.Need-enum-told (entries-uses t) (entries-at t) entries.Post entries-Inv-loop entries-μ-loop
-entries-enum-told t c = search needs
-
-entries-again-requires : (t : ℕ) → entries-lts.Need-again-requires (entries-uses t) (entries-at t) entries.Post entries-Inv-loop entries-μ-loop
-entries-again-requires t c κs = search needs
-
-entries-same-length : (t : ℕ) → entries-lts.Need-same-length (entries-uses t) (entries-at t) entries.Post entries-Inv-loop entries-μ-loop
-entries-same-length t c =
-    let c7 = c .before .before .before .before .before .before .before in
-    let c11 = c7 .before .before .before .before in
-    c7 .value .kept .1 .1 .0 ∙ c11 .loop .inv .lent
-
-entries-same-length-2 : (t : ℕ) → entries-lts.Need-same-length-2 (entries-uses t) (entries-at t) entries.Post entries-Inv-loop entries-μ-loop
-entries-same-length-2 t c =
-    let c7 = c .before .before .before .before .before .before .before in
-    let c11 = c7 .before .before .before .before in
-    c7 .value .kept .1 .1 .1 .0 ∙ c11 .loop .inv .worked
-
-entries-returns : (t : ℕ) → entries-lts.Need-returns (entries-uses t) (entries-at t) entries.Post entries-Inv-loop entries-μ-loop
-entries-returns t c =
-    let c1 = c .before in
-    let c7 = c1 .before .before .before .before .before .before in
-    let c10 = c7 .before .before .before in
-    let c11 = c10 .before in
-    let c16 = c11 .before .before .before .before .before in
-    let a = c16 .args in
-    let x = c11 .loop in
-    entries-not (now (a .table)) (now (a .m)) (now (a .work)) (now (a .rows)) (a .modes) (a .node) (a .count) (a .c) (a .n) (x .work) (x .rows) (x .k) (x .core) (x .i) (x .inv) (c16 .pre .1 .2) (c10 .loop-test .taken) (c7 .value .ensures) (c1 .enum-told .given .1) (c .again .ensures)
-
-entries-sub-k : (t : ℕ) → entries-lts.Need-sub-k (entries-uses t) (entries-at t) entries.Post entries-Inv-loop entries-μ-loop
-entries-sub-k t c = search needs
-
-entries-loop-less : (t : ℕ) → entries-lts.Need-loop-less (entries-uses t) (entries-at t) entries.Post entries-Inv-loop entries-μ-loop
-entries-loop-less t c = omega arith
-
-entries-loop-again : (t : ℕ) → entries-lts.Need-loop-again (entries-uses t) (entries-at t) entries.Post entries-Inv-loop entries-μ-loop
-entries-loop-again t c =
-    let c1 = c .before in
-    let c7 = c1 .before .before .before .before .before .before in
-    let c10 = c7 .before .before .before in
-    let c11 = c10 .before in
-    let c16 = c11 .before .before .before .before .before in
-    let a = c16 .args in
-    let x = c11 .loop in
-    entries-again (now (a .table)) (now (a .m)) (now (a .work)) (now (a .rows)) (a .modes) (a .node) (a .count) (a .c) (a .n) (x .work) (x .rows) (x .k) (x .core) (x .i) (x .inv) (c16 .pre .1 .2) (c16 .pre .1 .3) (c10 .loop-test .taken) (c7 .value .kept .1 .1 .0) (c7 .value .kept .1 .1 .1 .0) (c7 .value .ensures) (c1 .r .given .1)
-
-entries-same-length-3 : (t : ℕ) → entries-lts.Need-same-length-3 (entries-uses t) (entries-at t) entries.Post entries-Inv-loop entries-μ-loop
-entries-same-length-3 t c = c .before .loop .inv .lent
-
-entries-same-length-4 : (t : ℕ) → entries-lts.Need-same-length-4 (entries-uses t) (entries-at t) entries.Post entries-Inv-loop entries-μ-loop
-entries-same-length-4 t c = c .before .loop .inv .worked
-
-entries-returns-2 : (t : ℕ) → entries-lts.Need-returns-2 (entries-uses t) (entries-at t) entries.Post entries-Inv-loop entries-μ-loop
-entries-returns-2 t c =
+run-may-be-absent-requires : (t : ℕ) → run-lts.Need-may-be-absent-requires (run-uses t) (run-at t) run.Post run-Inv-loop run-μ-loop
+run-may-be-absent-requires t c κs =
     let c1 = c .before in
     let c6 = c1 .before .before .before .before .before in
     let a = c6 .args in
     let x = c1 .loop in
-    entries-end (now (a .table)) (now (a .m)) (now (a .work)) (now (a .rows)) (a .modes) (a .node) (a .count) (a .c) (a .n) (x .work) (x .rows) (x .k) (x .core) (x .i) (x .inv) (c6 .pre .1 .2) (c .loop-test .left)
+    node-inside _ _ _ _ (run-fits (now (a .table)) (now (a .m)) (now (a .work)) (now (a .rows)) (a .modes) (a .node) (a .repeated) (a .count) (a .c) (a .n) (x .work) (x .rows) (x .k) (x .at) (x .core) (x .i) (x .inv) (c6 .pre .1 .2) (c6 .pre .1 .3) (c .loop-test .taken)) (c6 .pre .1 .2) .1
 
-abbrev fields-Inv-loop : fields-lts.InvT-loop
-fields-Inv-loop table m rows₀ work₀ modes node n left count k₀ at₀ core₀ i₀ rows work k at core i = FieldsAt table m work₀ rows₀ modes node count core₀ n work rows k at core i
-
-abbrev fields-μ-loop : fields-lts.MeasureT-loop
-fields-μ-loop table m rows₀ work₀ modes node n left count k₀ at₀ core₀ i₀ rows work k at core i = k
-
-fields-loop-holds : (t : ℕ) → fields-lts.Need-loop-holds (fields-uses t) (fields-at t) fields.Post fields-Inv-loop fields-μ-loop
-fields-loop-holds t c =
-    let c4 = c .before .before .before .before in
-    let a = c4 .args in
-    fields-begin (now (a .table)) (now (a .m)) (now (a .work)) (now (a .rows)) (a .modes) (a .node) (a .count) (a .c) (a .n) (c4 .pre .1 .0) (c4 .pre .1 .1)
-
-fields-is-omittable-requires : (t : ℕ) → fields-lts.Need-is-omittable-requires (fields-uses t) (fields-at t) fields.Post fields-Inv-loop fields-μ-loop
-fields-is-omittable-requires t c κs =
-    let c1 = c .before in
-    let c6 = c1 .before .before .before .before .before in
-    let a = c6 .args in
-    let x = c1 .loop in
-    node-inside _ _ _ _ (fields-fits (now (a .table)) (now (a .m)) (now (a .work)) (now (a .rows)) (a .modes) (a .node) (a .count) (a .c) (a .n) (x .work) (x .rows) (x .k) (x .at) (x .core) (x .i) (x .inv) (c6 .pre .1 .2) (c6 .pre .1 .3) (c .loop-test .taken)) (c6 .pre .1 .2) .1
-
-fields-end-at-requires : (t : ℕ) → fields-lts.Need-end-at-requires (fields-uses t) (fields-at t) fields.Post fields-Inv-loop fields-μ-loop
-fields-end-at-requires t c κs =
+run-next-node-requires : (t : ℕ) → run-lts.Need-next-node-requires (run-uses t) (run-at t) run.Post run-Inv-loop run-μ-loop
+run-next-node-requires t c κs =
     let c2 = c .before .before in
     let c3 = c2 .before in
     let c8 = c3 .before .before .before .before .before in
     let a = c8 .args in
     let x = c3 .loop in
-    omega (arith, node-inside _ _ _ _ (fields-fits (now (a .table)) (now (a .m)) (now (a .work)) (now (a .rows)) (a .modes) (a .node) (a .count) (a .c) (a .n) (x .work) (x .rows) (x .k) (x .at) (x .core) (x .i) (x .inv) (c8 .pre .1 .2) (c8 .pre .1 .3) (c2 .loop-test .taken)) (c8 .pre .1 .2) .0, x .inv .ready .good .whole)
+    omega (arith, node-inside _ _ _ _ (run-fits (now (a .table)) (now (a .m)) (now (a .work)) (now (a .rows)) (a .modes) (a .node) (a .repeated) (a .count) (a .c) (a .n) (x .work) (x .rows) (x .k) (x .at) (x .core) (x .i) (x .inv) (c8 .pre .1 .2) (c8 .pre .1 .3) (c2 .loop-test .taken)) (c8 .pre .1 .2) .0, x .inv .ready .good .whole)
 
-fields-value-requires : (t : ℕ) → fields-lts.Need-value-requires (fields-uses t) (fields-at t) fields.Post fields-Inv-loop fields-μ-loop
-fields-value-requires t c κs =
+run-value-requires : (t : ℕ) → run-lts.Need-value-requires (run-uses t) (run-at t) run.Post run-Inv-loop run-μ-loop
+run-value-requires t c κs =
     let c5 = c .before .before .before .before .before in
     let c6 = c5 .before in
     let c11 = c6 .before .before .before .before .before in
     let a = c11 .args in
     let x = c6 .loop in
-    (omega (arith, c11 .pre .0), (x .inv .ready, x .inv .inside, c11 .pre .1 .2, fields-fits (now (a .table)) (now (a .m)) (now (a .work)) (now (a .rows)) (a .modes) (a .node) (a .count) (a .c) (a .n) (x .work) (x .rows) (x .k) (x .at) (x .core) (x .i) (x .inv) (c11 .pre .1 .2) (c11 .pre .1 .3) (c5 .loop-test .taken)))
+    (omega (arith, c11 .pre .0), (x .inv .ready, x .inv .inside, c11 .pre .1 .2, run-fits (now (a .table)) (now (a .m)) (now (a .work)) (now (a .rows)) (a .modes) (a .node) (a .repeated) (a .count) (a .c) (a .n) (x .work) (x .rows) (x .k) (x .at) (x .core) (x .i) (x .inv) (c11 .pre .1 .2) (c11 .pre .1 .3) (c5 .loop-test .taken)))
 
-fields-enum-known-r : (t : ℕ) → fields-lts.Need-enum-known-r (fields-uses t) (fields-at t) fields.Post fields-Inv-loop fields-μ-loop
-fields-enum-known-r t c = search needs
+run-enum-known-r : (t : ℕ) → run-lts.Need-enum-known-r (run-uses t) (run-at t) run.Post run-Inv-loop run-μ-loop
+run-enum-known-r t c = search needs
 
-fields-enum-told : (t : ℕ) → fields-lts.Need-enum-told (fields-uses t) (fields-at t) fields.Post fields-Inv-loop fields-μ-loop
-fields-enum-told t c = search needs
+run-enum-told : (t : ℕ) → run-lts.Need-enum-told (run-uses t) (run-at t) run.Post run-Inv-loop run-μ-loop
+run-enum-told t c = search needs
 
-fields-again-requires : (t : ℕ) → fields-lts.Need-again-requires (fields-uses t) (fields-at t) fields.Post fields-Inv-loop fields-μ-loop
-fields-again-requires t c κs = search needs
+run-again-requires : (t : ℕ) → run-lts.Need-again-requires (run-uses t) (run-at t) run.Post run-Inv-loop run-μ-loop
+run-again-requires t c κs = search needs
 
-fields-same-length : (t : ℕ) → fields-lts.Need-same-length (fields-uses t) (fields-at t) fields.Post fields-Inv-loop fields-μ-loop
-fields-same-length t c =
+run-same-length : (t : ℕ) → run-lts.Need-same-length (run-uses t) (run-at t) run.Post run-Inv-loop run-μ-loop
+run-same-length t c =
     let c7 = c .before .before .before .before .before .before .before in
     let c14 = c7 .before .before .before .before .before .before .before in
     c7 .value .kept .1 .1 .0 ∙ c14 .loop .inv .lent
 
-fields-same-length-2 : (t : ℕ) → fields-lts.Need-same-length-2 (fields-uses t) (fields-at t) fields.Post fields-Inv-loop fields-μ-loop
-fields-same-length-2 t c =
+run-same-length-2 : (t : ℕ) → run-lts.Need-same-length-2 (run-uses t) (run-at t) run.Post run-Inv-loop run-μ-loop
+run-same-length-2 t c =
     let c7 = c .before .before .before .before .before .before .before in
     let c14 = c7 .before .before .before .before .before .before .before in
     c7 .value .kept .1 .1 .1 .0 ∙ c14 .loop .inv .worked
 
-fields-returns : (t : ℕ) → fields-lts.Need-returns (fields-uses t) (fields-at t) fields.Post fields-Inv-loop fields-μ-loop
-fields-returns t c =
+run-returns : (t : ℕ) → run-lts.Need-returns (run-uses t) (run-at t) run.Post run-Inv-loop run-μ-loop
+run-returns t c =
     let c1 = c .before in
     let c7 = c1 .before .before .before .before .before .before in
     let c12 = c7 .before .before .before .before .before in
@@ -372,16 +274,16 @@ fields-returns t c =
     let c19 = c14 .before .before .before .before .before in
     let a = c19 .args in
     let x = c14 .loop in
-    fields-not (now (a .table)) (now (a .m)) (now (a .work)) (now (a .rows)) (a .modes) (a .node) (a .count) (a .c) (a .n) (x .work) (x .rows) (x .k) (x .at) (x .core) (x .i) (x .inv) (c19 .pre .1 .2) (c13 .loop-test .taken) (c12 .is-omittable .ensures) (c7 .value .ensures) (c1 .enum-told .given .1) (c .again .ensures)
+    run-not (now (a .table)) (now (a .m)) (now (a .work)) (now (a .rows)) (a .modes) (a .node) (a .repeated) (a .count) (a .c) (a .n) (x .work) (x .rows) (x .k) (x .at) (x .core) (x .i) (x .inv) (c19 .pre .1 .2) (c13 .loop-test .taken) (c12 .may-be-absent .ensures) (c7 .value .ensures) (c1 .enum-told .given .1) (c .again .ensures)
 
-fields-sub-k : (t : ℕ) → fields-lts.Need-sub-k (fields-uses t) (fields-at t) fields.Post fields-Inv-loop fields-μ-loop
-fields-sub-k t c = search needs
+run-sub-k : (t : ℕ) → run-lts.Need-sub-k (run-uses t) (run-at t) run.Post run-Inv-loop run-μ-loop
+run-sub-k t c = search needs
 
-fields-loop-less : (t : ℕ) → fields-lts.Need-loop-less (fields-uses t) (fields-at t) fields.Post fields-Inv-loop fields-μ-loop
-fields-loop-less t c = omega arith
+run-loop-less : (t : ℕ) → run-lts.Need-loop-less (run-uses t) (run-at t) run.Post run-Inv-loop run-μ-loop
+run-loop-less t c = omega arith
 
-fields-loop-again : (t : ℕ) → fields-lts.Need-loop-again (fields-uses t) (fields-at t) fields.Post fields-Inv-loop fields-μ-loop
-fields-loop-again t c =
+run-loop-again : (t : ℕ) → run-lts.Need-loop-again (run-uses t) (run-at t) run.Post run-Inv-loop run-μ-loop
+run-loop-again t c =
     let c1 = c .before in
     let c7 = c1 .before .before .before .before .before .before in
     let c10 = c7 .before .before .before in
@@ -391,21 +293,21 @@ fields-loop-again t c =
     let c19 = c14 .before .before .before .before .before in
     let a = c19 .args in
     let x = c14 .loop in
-    fields-again (now (a .table)) (now (a .m)) (now (a .work)) (now (a .rows)) (a .modes) (a .node) (a .count) (a .c) (a .n) (x .work) (x .rows) (x .k) (x .at) (x .core) (x .i) (x .inv) (c19 .pre .1 .2) (c19 .pre .1 .3) (c13 .loop-test .taken) (c12 .is-omittable .ensures) (c10 .end-at .ensures .0) (c7 .value .kept .1 .1 .0) (c7 .value .kept .1 .1 .1 .0) (c7 .value .ensures) (c1 .r .given .1)
+    run-again (now (a .table)) (now (a .m)) (now (a .work)) (now (a .rows)) (a .modes) (a .node) (a .repeated) (a .count) (a .c) (a .n) (x .work) (x .rows) (x .k) (x .at) (x .core) (x .i) (x .inv) (c19 .pre .1 .2) (c13 .loop-test .taken) (c12 .may-be-absent .ensures) (c7 .value .ensures) (c19 .pre .1 .3) (c10 .next-node .ensures) (c7 .value .kept .1 .1 .0) (c7 .value .kept .1 .1 .1 .0) (c1 .r .given .1)
 
-fields-same-length-3 : (t : ℕ) → fields-lts.Need-same-length-3 (fields-uses t) (fields-at t) fields.Post fields-Inv-loop fields-μ-loop
-fields-same-length-3 t c = c .before .loop .inv .lent
+run-same-length-3 : (t : ℕ) → run-lts.Need-same-length-3 (run-uses t) (run-at t) run.Post run-Inv-loop run-μ-loop
+run-same-length-3 t c = c .before .loop .inv .lent
 
-fields-same-length-4 : (t : ℕ) → fields-lts.Need-same-length-4 (fields-uses t) (fields-at t) fields.Post fields-Inv-loop fields-μ-loop
-fields-same-length-4 t c = c .before .loop .inv .worked
+run-same-length-4 : (t : ℕ) → run-lts.Need-same-length-4 (run-uses t) (run-at t) run.Post run-Inv-loop run-μ-loop
+run-same-length-4 t c = c .before .loop .inv .worked
 
-fields-returns-2 : (t : ℕ) → fields-lts.Need-returns-2 (fields-uses t) (fields-at t) fields.Post fields-Inv-loop fields-μ-loop
-fields-returns-2 t c =
+run-returns-2 : (t : ℕ) → run-lts.Need-returns-2 (run-uses t) (run-at t) run.Post run-Inv-loop run-μ-loop
+run-returns-2 t c =
     let c1 = c .before in
     let c6 = c1 .before .before .before .before .before in
     let a = c6 .args in
     let x = c1 .loop in
-    fields-end (now (a .table)) (now (a .m)) (now (a .work)) (now (a .rows)) (a .modes) (a .node) (a .count) (a .c) (a .n) (x .work) (x .rows) (x .k) (x .at) (x .core) (x .i) (x .inv) (c6 .pre .1 .2) (c .loop-test .left)
+    run-end (now (a .table)) (now (a .m)) (now (a .work)) (now (a .rows)) (a .modes) (a .node) (a .repeated) (a .count) (a .c) (a .n) (x .work) (x .rows) (x .k) (x .at) (x .core) (x .i) (x .inv) (c6 .pre .1 .2) (c .loop-test .left)
 
 record-is-bare-requires : (t : ℕ) → record-lts.Need-is-bare-requires (record-uses t) (record-at t) record.Post
 record-is-bare-requires t c κs = search needs
@@ -443,40 +345,53 @@ record-returns-2 t c =
     let a = c13 .args in
     record-31 (now (a .table)) (now (a .m)) (now (a .work)) (now (a .rows)) (a .modes) (a .node) (a .n) (a .front) (a .c) (c13 .pre .1 .4) _ (c8 .is-bare .ensures) (c7 .if1 .left) _ (c4 .push .ensures .0) (c .enum-told .given .1)
 
-record-add-fields : (t : ℕ) → record-lts.Need-add-fields (record-uses t) (record-at t) record.Post
-record-add-fields t c =
-    let c16 = c .before .before .before .before .before .before .before .before .before .before .before .before .before .before .before .before in
-    omega (arith, wire-inside _ _ _ _ (c16 .pre .1 .3) (c16 .pre .1 .2) .1)
-
-record-sub-fields : (t : ℕ) → record-lts.Need-sub-fields (record-uses t) (record-at t) record.Post
-record-sub-fields t c =
-    let c16 = c .before .before .before .before .before .before .before .before .before .before .before .before .before .before .before .before in
-    omega (arith, wire-inside _ _ _ _ (c16 .pre .1 .3) (c16 .pre .1 .2) .0)
-
-record-fields-requires : (t : ℕ) → record-lts.Need-fields-requires (record-uses t) (record-at t) record.Post
-record-fields-requires t c κs =
-    let c9 = c .before .before .before .before .before .before .before .before .before in
-    let c16 = c9 .before .before .before .before .before .before .before in
-    let a = c16 .args in
-    (omega (arith, c16 .pre .0, wire-inside _ _ _ _ (c16 .pre .1 .3) (c16 .pre .1 .2) .0), (c16 .pre .1 .0, c16 .pre .1 .1, c16 .pre .1 .2, record-fits _ _ _ _ _ (c16 .pre .1 .4) (c9 .argument-at .ensures .0) (c16 .pre .1 .3)))
-
 record-same-length-2 : (t : ℕ) → record-lts.Need-same-length-2 (record-uses t) (record-at t) record.Post
 record-same-length-2 t c = search needs
+
+record-returns-3 : (t : ℕ) → record-lts.Need-returns-3 (record-uses t) (record-at t) record.Post
+record-returns-3 t c =
+    let c2 = c .before .before in
+    let c6 = c2 .before .before .before .before in
+    let c8 = c6 .before .before in
+    let c9 = c8 .before in
+    let c10 = c9 .before in
+    let c15 = c10 .before .before .before .before .before in
+    let a = c15 .args in
+    record-then (now (a .table)) (now (a .m)) (now (a .work)) (now (a .rows)) (a .modes) (a .node) (a .n) (a .front) (a .c) (c15 .pre .1 .4) _ (c10 .is-bare .ensures) (c9 .if1 .left) _ (c6 .push .ensures .0) (c8 .argument-at .ensures .0) (c6 .push .ensures .1) (c2 .next .given .1) (c6 .push .kept .0) (no-fields _ _ _ _ _ _ _ _ _ (c15 .pre .1 .0) (c15 .pre .1 .1) (c15 .pre .1 .2) (c .if2 .taken))
+
+record-add-run : (t : ℕ) → record-lts.Need-add-run (record-uses t) (record-at t) record.Post
+record-add-run t c =
+    let c17 = c .before .before .before .before .before .before .before .before .before .before .before .before .before .before .before .before .before in
+    omega (arith, wire-inside _ _ _ _ (c17 .pre .1 .3) (c17 .pre .1 .2) .1)
+
+record-sub-run : (t : ℕ) → record-lts.Need-sub-run (record-uses t) (record-at t) record.Post
+record-sub-run t c =
+    let c17 = c .before .before .before .before .before .before .before .before .before .before .before .before .before .before .before .before .before in
+    omega (arith, wire-inside _ _ _ _ (c17 .pre .1 .3) (c17 .pre .1 .2) .0)
+
+record-run-requires : (t : ℕ) → record-lts.Need-run-requires (record-uses t) (record-at t) record.Post
+record-run-requires t c κs =
+    let c10 = c .before .before .before .before .before .before .before .before .before .before in
+    let c17 = c10 .before .before .before .before .before .before .before in
+    (omega (arith, c17 .pre .0, wire-inside _ _ _ _ (c17 .pre .1 .3) (c17 .pre .1 .2) .0), (c17 .pre .1 .0, c17 .pre .1 .1, c17 .pre .1 .2, run-fields (record-fits _ _ _ _ _ (c17 .pre .1 .4) (c10 .argument-at .ensures .0) (c17 .pre .1 .3))))
 
 record-same-length-3 : (t : ℕ) → record-lts.Need-same-length-3 (record-uses t) (record-at t) record.Post
 record-same-length-3 t c = search needs
 
-record-returns-3 : (t : ℕ) → record-lts.Need-returns-3 (record-uses t) (record-at t) record.Post
-record-returns-3 t c =
+record-same-length-4 : (t : ℕ) → record-lts.Need-same-length-4 (record-uses t) (record-at t) record.Post
+record-same-length-4 t c = search needs
+
+record-returns-4 : (t : ℕ) → record-lts.Need-returns-4 (record-uses t) (record-at t) record.Post
+record-returns-4 t c =
     let c4 = c .before .before .before .before in
-    let c8 = c4 .before .before .before .before in
-    let c12 = c8 .before .before .before .before in
-    let c14 = c12 .before .before in
-    let c15 = c14 .before in
+    let c9 = c4 .before .before .before .before .before in
+    let c13 = c9 .before .before .before .before in
+    let c15 = c13 .before .before in
     let c16 = c15 .before in
-    let c21 = c16 .before .before .before .before .before in
-    let a = c21 .args in
-    record-then (now (a .table)) (now (a .m)) (now (a .work)) (now (a .rows)) (a .modes) (a .node) (a .n) (a .front) (a .c) (c21 .pre .1 .4) _ (c16 .is-bare .ensures) (c15 .if1 .left) _ (c12 .push .ensures .0) (c14 .argument-at .ensures .0) (c12 .push .ensures .1) (c8 .next .given .1) (c12 .push .kept .0) (c4 .fields .ensures)
+    let c17 = c16 .before in
+    let c22 = c17 .before .before .before .before .before in
+    let a = c22 .args in
+    record-then (now (a .table)) (now (a .m)) (now (a .work)) (now (a .rows)) (a .modes) (a .node) (a .n) (a .front) (a .c) (c22 .pre .1 .4) _ (c17 .is-bare .ensures) (c16 .if1 .left) _ (c13 .push .ensures .0) (c15 .argument-at .ensures .0) (c13 .push .ensures .1) (c9 .next .given .1) (c13 .push .kept .0) (c4 .run .ensures .fields refl)
 
 value-kind-at-requires : (t : ℕ) → value-lts.Need-kind-at-requires (value-uses t) (value-at t) value.Post
 value-kind-at-requires t c κs =
@@ -633,9 +548,9 @@ wire-returns-4 t c =
     let c4 = c .before .before .before .before in
     c4 .block .ensures
 
-pub +array+entries+fields+record+value+wire-spec : {M : Type 1} → statement M
-+array+entries+fields+record+value+wire-spec =
-    close μ-array μ-entries μ-fields μ-record μ-value μ-wire (λ t. array-lts.spec (array-uses t) (array-at t) array.Post
+pub +array+record+run+value+wire-spec : {M : Type 1} → statement M
++array+record+run+value+wire-spec =
+    close μ-array μ-record μ-run μ-value μ-wire (λ t. array-lts.spec (array-uses t) (array-at t) array.Post
     (array-own-label-requires t)
     (array-enum-known-l t)
     (array-enum-told t)
@@ -649,49 +564,12 @@ pub +array+entries+fields+record+value+wire-spec : {M : Type 1} → statement M
     (array-enum-told-3 t)
     (array-same-length t)
     (array-returns-3 t)
-    (array-add-entries t)
-    (array-sub-entries t)
-    (array-entries-requires t)
+    (array-add-run t)
+    (array-sub-run t)
+    (array-run-requires t)
     (array-same-length-2 t)
     (array-same-length-3 t)
     (array-returns-4 t))
-    (λ t. entries-lts.spec
-    (entries-uses t) (entries-at t) entries.Post
-    entries-Inv-loop
-    entries-μ-loop
-    (entries-loop-holds t)
-    (entries-value-requires t)
-    (entries-enum-known-r t)
-    (entries-enum-told t)
-    (entries-again-requires t)
-    (entries-same-length t)
-    (entries-same-length-2 t)
-    (entries-returns t)
-    (entries-sub-k t)
-    (entries-loop-less t)
-    (entries-loop-again t)
-    (entries-same-length-3 t)
-    (entries-same-length-4 t)
-    (entries-returns-2 t))
-    (λ t. fields-lts.spec (fields-uses t) (fields-at t) fields.Post
-    fields-Inv-loop
-    fields-μ-loop
-    (fields-loop-holds t)
-    (fields-is-omittable-requires t)
-    (fields-end-at-requires t)
-    (fields-value-requires t)
-    (fields-enum-known-r t)
-    (fields-enum-told t)
-    (fields-again-requires t)
-    (fields-same-length t)
-    (fields-same-length-2 t)
-    (fields-returns t)
-    (fields-sub-k t)
-    (fields-loop-less t)
-    (fields-loop-again t)
-    (fields-same-length-3 t)
-    (fields-same-length-4 t)
-    (fields-returns-2 t))
     (λ t. record-lts.spec (record-uses t) (record-at t) record.Post
     (record-is-bare-requires t)
     (record-returns t)
@@ -701,12 +579,33 @@ pub +array+entries+fields+record+value+wire-spec : {M : Type 1} → statement M
     (record-enum-told t)
     (record-same-length t)
     (record-returns-2 t)
-    (record-add-fields t)
-    (record-sub-fields t)
-    (record-fields-requires t)
     (record-same-length-2 t)
+    (record-returns-3 t)
+    (record-add-run t)
+    (record-sub-run t)
+    (record-run-requires t)
     (record-same-length-3 t)
-    (record-returns-3 t))
+    (record-same-length-4 t)
+    (record-returns-4 t))
+    (λ t. run-lts.spec (run-uses t) (run-at t) run.Post
+    run-Inv-loop
+    run-μ-loop
+    (run-loop-holds t)
+    (run-may-be-absent-requires t)
+    (run-next-node-requires t)
+    (run-value-requires t)
+    (run-enum-known-r t)
+    (run-enum-told t)
+    (run-again-requires t)
+    (run-same-length t)
+    (run-same-length-2 t)
+    (run-returns t)
+    (run-sub-k t)
+    (run-loop-less t)
+    (run-loop-again t)
+    (run-same-length-3 t)
+    (run-same-length-4 t)
+    (run-returns-2 t))
     (λ t. value-lts.spec (value-uses t) (value-at t) value.Post
     (value-kind-at-requires t)
     (value-open-requires t)

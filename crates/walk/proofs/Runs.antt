@@ -1,0 +1,116 @@
+-- The loop of a run is the loop over entries or the one over fields, and each law here goes by which of the two.
+use mathlib.Core.Path.{_≡_, refl, sym, ap, _∙_, subst, subst₂}
+use mathlib.Core.Bool.{Bool, true, false, cond}
+use mathlib.Core.List.{List, [], _++_, append-nil}
+use Prim.Native.Nat.{ℕ, _-_}
+use native.Mathlib.Omega.{arith}
+use lib.ListN.{length}
+use Rattle.format.specs.Answer.{Answer, ok, refuse, _>>=_}
+use Rattle.format.specs.Table.{nodeAt, omittable}
+use Rattle.format.specs.Row.{Place, Row}
+use Rattle.format.specs.Read.{inMessage, State, Read, entries}
+use Rattle.label.specs.declared.cursor.Cursor.{Cursor}
+use Rattle.pieces.specs.Pieces.{Inside}
+use Rattle.store.specs.Words.{word}
+use Rattle.leaf.specs.declared.Step.{Step}
+use Rattle.leaf.specs.declared.Step.the-variants.{Done, Refused}
+use Rattle.leaf.specs.State.{Ready}
+use Rattle.leaf.specs.Does.{along}
+use Rattle.typed.specs.Typed.{Sized, FitsNode, FitFields}
+use Rattle.walk.specs.Walk.{ReadsValue, ReadsFields, ReadsEntries, ReadsRun, FitRun, absentIn, nextIn}
+use Rattle.walk.proofs.Loops.{EntriesAt, entries-begin, entries-fits, entries-not, entries-again, entries-end, FieldsAt, fields-begin, fields-fits, fields-not, fields-again, fields-end}
+
+by-either : {X : Type 0} (b : Bool) → (b ≡ true → X) → (b ≡ false → X) → X
+by-either true f g = f refl
+by-either false f g = g refl
+
+true-not : true ≡ false → ⊥
+true-not e = let y : _≡_ {A = ℕ} 0 1 = cc in omega arith
+
+-- ---- what it asks
+
+module _ {table work : List ℕ} {left node count : ℕ} where
+  pub run-entries : FitsNode table work left node → FitRun table work left node true count
+  run-entries f = record { entries = λ e. f; fields = λ e. absurd (true-not e) }
+
+  pub run-fields : FitFields table work left node count → FitRun table work left node false count
+  run-fields f = record { entries = λ e. absurd (true-not (sym e)); fields = λ e. f }
+
+-- ---- the loop
+
+pub record RunAt (table m w₀ l₀ : List ℕ) (modes node₀ : ℕ) (repeated : Bool) (count : ℕ) (c₀ : Cursor) (n₀ : ℕ) (w l : List ℕ) (k node : ℕ) (c : Cursor) (n : ℕ) : Type 0 where
+  pub lent : length l ≡ length l₀
+  pub worked : length w ≡ length w₀
+  pub ready : Ready m w
+  pub inside : Inside m c
+  pub stays : repeated ≡ true → node ≡ node₀
+  pub entries : repeated ≡ true → EntriesAt table m w₀ l₀ modes node₀ count c₀ n₀ w l k c n
+  pub fields : repeated ≡ false → FieldsAt table m w₀ l₀ modes node₀ count c₀ n₀ w l k node c n
+
+module _ (table m w₀ l₀ : List ℕ) (modes node₀ : ℕ) (repeated : Bool) (count : ℕ) (c₀ : Cursor) (n₀ : ℕ) where
+  pub run-begin : Ready m w₀ → Inside m c₀ → RunAt table m w₀ l₀ modes node₀ repeated count c₀ n₀ w₀ l₀ count node₀ c₀ n₀
+  run-begin g i = record {
+    lent = refl;
+    worked = refl;
+    ready = g;
+    inside = i;
+    stays = λ e. refl;
+    entries = λ e. entries-begin table m w₀ l₀ modes node₀ count c₀ n₀ g i;
+    fields = λ e. fields-begin table m w₀ l₀ modes node₀ count c₀ n₀ g i;
+  }
+
+  module _ (w l : List ℕ) (k node : ℕ) (c : Cursor) (n : ℕ) (x : RunAt table m w₀ l₀ modes node₀ repeated count c₀ n₀ w l k node c n) (whole : Sized table) where
+    pub run-fits : {left : ℕ} → FitRun table w₀ left node₀ repeated count → (k ≡ 0 → ⊥) → FitsNode table w left node
+    run-fits {left} g z =
+        by-either repeated
+        (λ e. subst (λ i. FitsNode table w left i) (sym (x .stays e)) (entries-fits table m w₀ l₀ modes node₀ count c₀ n₀ w l k c n (x .entries e) whole (g .entries e)))
+        (λ e. fields-fits table m w₀ l₀ modes node₀ count c₀ n₀ w l k node c n (x .fields e) whole (g .fields e) z)
+
+    -- a value of it
+    module _ {w₁ l₁ : List ℕ} {r : Step} {o : Bool} (z : k ≡ 0 → ⊥) (t : o ≡ absentIn repeated (nodeAt table node)) (y : ReadsValue m w w₁ l l₁ c n r table modes node o) where
+      absent-is : {b : Bool} → repeated ≡ b → o ≡ absentIn b (nodeAt table node)
+      absent-is e = t ∙ ap (λ b. absentIn b (nodeAt table node)) e
+
+      entry : repeated ≡ true → ReadsValue m w w₁ l l₁ c n r table modes node₀ false
+      entry e = subst₂ (λ (i : ℕ) (b : Bool). ReadsValue m w w₁ l l₁ c n r table modes i b) (x .stays e) (absent-is e) y
+
+      pub run-not : {r′ : Step} {e : ℕ} → r ≡ Refused e → r′ ≡ r → ReadsRun m w₀ w₁ l₀ l₁ c₀ n₀ r′ table modes node₀ repeated count
+      run-not q u = record {
+        entries = λ e. entries-not table m w₀ l₀ modes node₀ count c₀ n₀ w l k c n (x .entries e) whole z (entry e) q u;
+        fields = λ e. fields-not table m w₀ l₀ modes node₀ count c₀ n₀ w l k node c n (x .fields e) whole z (absent-is e) y q u;
+      }
+
+      pub run-again : {left next n₁ : ℕ} {c₁ : Cursor} → FitRun table w₀ left node₀ repeated count → next ≡ nextIn repeated node w → length l₁ ≡ length l → length w₁ ≡ length w → r ≡ Done c₁ n₁
+          → RunAt table m w₀ l₀ modes node₀ repeated count c₀ n₀ w₁ l₁ (k - 1) next c₁ n₁
+      run-again {left} {next} {n₁} {c₁} g b e₁ e₂ q =
+          let next-is : (j : Bool) → repeated ≡ j → next ≡ nextIn j node w = λ j e. b ∙ ap (λ i. nextIn i node w) e in
+          let es : repeated ≡ true → EntriesAt table m w₀ l₀ modes node₀ count c₀ n₀ w₁ l₁ (k - 1) c₁ n₁ = λ e. entries-again table m w₀ l₀ modes node₀ count c₀ n₀ w l k c n (x .entries e) whole (g .entries e) z e₁ e₂ (entry e) q in
+          let fs : repeated ≡ false → FieldsAt table m w₀ l₀ modes node₀ count c₀ n₀ w₁ l₁ (k - 1) next c₁ n₁ = λ e. fields-again table m w₀ l₀ modes node₀ count c₀ n₀ w l k node c n (x .fields e) whole (g .fields e) z (absent-is e) (next-is false e) e₁ e₂ y q in
+          record {
+            lent = e₁ ∙ x .lent;
+            worked = e₂ ∙ x .worked;
+            ready = by-either repeated (λ e. es e .ready) (λ e. fs e .ready);
+            inside = by-either repeated (λ e. es e .inside) (λ e. fs e .inside);
+            stays = λ e. next-is true e ∙ x .stays e;
+            entries = es;
+            fields = fs;
+          }
+
+    pub run-end : k ≡ 0 → ReadsRun m w₀ w l₀ l c₀ n₀ (Done c n) table modes node₀ repeated count
+    run-end z = record { entries = λ e. entries-end table m w₀ l₀ modes node₀ count c₀ n₀ w l k c n (x .entries e) whole z; fields = λ e. fields-end table m w₀ l₀ modes node₀ count c₀ n₀ w l k node c n (x .fields e) whole z }
+
+-- ---- none, and one
+
+pub no-fields : (table m w l : List ℕ) (modes node count : ℕ) (c : Cursor) (n : ℕ) → Ready m w → Inside m c → Sized table → count ≡ 0 → ReadsFields m w w l l c n (Done c n) table modes node count
+no-fields table m w l modes node count c n g i whole z = fields-end table m w l modes node count c n w l count node c n (fields-begin table m w l modes node count c n g i) whole z
+
+entries-one : {m : List ℕ} (f : Read (inMessage m)) (s : State (inMessage m)) → entries (inMessage m) 1 f s ≡ f s
+unfolding entries _>>=_
+entries-one {m} f s = go (f s)
+  where
+    go : (a : Answer (List (Row Place) × State (inMessage m))) → (a >>= (λ x. ok (x .0 ++ [], x .1))) ≡ a
+    go (ok x) = ap (λ rows. ok (rows, x .1)) (append-nil (x .0))
+    go (refuse i j) = refl
+
+pub one-entry : {m w w′ l l′ table : List ℕ} {c : Cursor} {n modes node : ℕ} {r : Step} → ReadsRun m w w′ l l′ c n r table modes node true 1 → ReadsValue m w w′ l l′ c n r table modes node false
+one-entry x = record { does = λ v path h d. along (sym (entries-one _ _)) (x .entries refl .does v path h d) }
