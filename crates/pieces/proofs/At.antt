@@ -68,9 +68,6 @@ module _ (m : List ℕ) (at : ℕ) where
     held-is : held n ≡ n
     held-is = toZ-ofZ w64 n (labelled .fits)
 
-    pub at-inside : (at < next .at) × (next .at ≤ length m)
-    at-inside = (labelled .later, labelled .inside)
-
     pub at-below : ltZ (held n) (pos 0) ≡ true → NoPiece m at
     at-below h = below-zero n (drop (next .at) m) (rw held-is at h) (labelled .is)
 

@@ -46,7 +46,7 @@ pub fn read_header(b: u8) -> Header
     }
 }
 
-// The piece whose label stands at `at`.
+// The piece whose label stands at `at`. For that the whole message is read as one piece.
 fn piece_at(m: &[u8], at: usize) -> Given
     ensures { λ r. ⌜ PieceIs (now (m .entry)) at r ⌝ }
 {

@@ -10,7 +10,7 @@ use borrow.Author.Needs.{needs}
 use Rattle.label.specs.Cursor.{cursor, labelAt}
 use Rattle.label.specs.declared.cursor.Cursor.{Cursor}
 use Rattle.label.specs.declared.cursor.Label.the-variants.{Got}
-use Rattle.pieces.proofs.At.{at-bad, at-inside, at-below, at-cast, at-long, at-piece}
+use Rattle.pieces.proofs.At.{at-bad, at-below, at-cast, at-long, at-piece}
 use Rattle.pieces.proofs.piece_at.Statement.{statement}
 use Rattle.pieces.proofs.piece_at.Tie as tie
 
