@@ -6,13 +6,14 @@ use native.Mathlib.Nat.{sub-zero, zero-sub, suc-sub-suc}
 use native.Mathlib.Omega.{arith}
 use lib.IntN.{ℤ}
 use lib.ListN.{length, take, drop}
-use lib.Seq.{slice, length-slice, take-nil}
+use lib.Seq.{slice, length-slice, take-nil, take-length, length-take-le}
 use borrow.Author.Tests.{le-leb, lt-leb}
 use Rattle.format.specs.Answer.{ok, refuse, needAt, orRefuse, _>>=_, _>>_}
+use Rattle.format.specs.Label.{readLabel}
 use Rattle.format.specs.Read.{inMessage, readNumber, readBytes}
 use Rattle.label.specs.declared.cursor.Cursor.{Cursor}
 use Rattle.label.specs.declared.cursor.Label.the-variants.{Got, Bad}
-use Rattle.label.specs.Cursor.{cursor, labelAt}
+use Rattle.label.specs.Cursor.{cursor, answer, labelAt}
 use Rattle.label.specs.Moved.{label-moved, label-bad}
 use Rattle.pieces.specs.Pieces.{readingOf, Inside}
 
@@ -23,6 +24,13 @@ take-drop (suc n) (suc k) [] = take-nil (suc k - suc n)
 take-drop (suc n) (suc k) (x ∷ l) = rw suc-sub-suc (take-drop n k l)
 
 module _ (m : List ℕ) (c : Cursor) where
+  -- what stands behind the piece makes no difference
+  pub label-within : c .end ≤ length m → labelAt (take (c .end) m) (cursor (c .at) (length (take (c .end) m))) ≡ labelAt m c
+  unfolding labelAt
+  label-within h =
+      ap (λ l. answer Got Bad (length (take (c .end) m)) (readLabel (drop (c .at) l))) (take-length (take (c .end) m))
+      ∙ ap (λ n. answer Got Bad n (readLabel (slice (c .at) (c .end) m))) (length-take-le (c .end) m h)
+
   left-is : inMessage m .left (readingOf c) ≡ slice (c .at) (c .end) m
   left-is = take-drop (c .at) (c .end) m
 

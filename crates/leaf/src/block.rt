@@ -6,6 +6,7 @@ ghost use Prim.Native.Nat.{_+_, _≤_, _<_, _^_};
 ghost use lib.ListN.{length, take, drop};
 ghost use Rattle.format.specs.Modes.{inlineEverything};
 ghost use Rattle.format.specs.Read.{inMessage, readBytes, readNumber, atKey, littleEndian};
+ghost use Rattle.label.specs.Cursor.{labelAt};
 ghost use Rattle.pieces.specs.Pieces.{Inside};
 ghost use Rattle.store.specs.Store.{lookup};
 ghost use Rattle.store.specs.Words.{storeOf};
@@ -105,6 +106,16 @@ pub fn take_bytes(
     Part::At(start, size, next)
 }
 
+// The label where a block, or the core, has been read to. The piece's slice ends where the piece ends, and begins with
+// the message, from where places are counted.
+fn label_in(m: &[u8], place: Cursor) -> Label
+    requires { ⌜ place .end ≤ length (now m) ⌝ }
+    ensures { λ r. ⌜ r ≡ labelAt (now (m .entry)) place ⌝ }
+{
+    let end = place.end;
+    piece::label_at(&m[..end], place.at)
+}
+
 fn block_number(m: &[u8], work: &mut [u32], key: usize, c: Cursor) -> Number
     requires { ⌜ Ready (now m) (now work) × (key < 32) × Inside (now m) c ⌝ }
     ensures { λ r. ⌜ Takes (now (m .entry)) (now (work .entry)) (now (work .exit)) c (numberOf r) (atKey (inMessage (now (m .entry))) false key (readNumber (inMessage (now (m .entry))))) ⌝ }
@@ -112,7 +123,7 @@ fn block_number(m: &[u8], work: &mut [u32], key: usize, c: Cursor) -> Number
     let Given::Block(block) = block_of(m, work, key) else {
         return Number::Refused(29);
     };
-    let Label::Got(v, next) = block.label(m) else {
+    let Label::Got(v, next) = label_in(m, block) else {
         return Number::Refused(23);
     };
     store::advance(work, key, next.at);
@@ -127,7 +138,7 @@ pub fn take_number(m: &[u8], work: &mut [u32], modes: u64, key: usize, c: Cursor
     if !is_inline(modes) {
         return block_number(m, work, key, c);
     }
-    let Label::Got(v, next) = c.label(m) else {
+    let Label::Got(v, next) = label_in(m, c) else {
         return Number::Refused(23);
     };
     Number::Is(v, next)

@@ -30,8 +30,8 @@ returns c =
     let f = readNumber (inMessage (now (a .m))) in
     block-none (now (a .m)) (a .key) f (a .c) (c4 .block-of .ensures) (c8 .pre .2) (c .enum-told .given .1)
 
-label-requires : tie.Need-label-requires
-label-requires c κs =
+label-in-requires : tie.Need-label-in-requires
+label-in-requires c κs =
     let c5 = c .before .before .before .before .before in
     opened-inside (c5 .block-of .ensures) (c .before .block .given .1) .inside
 
@@ -53,7 +53,7 @@ returns-2 c =
     let a = c12 .args in
     let f = readNumber (inMessage (now (a .m))) in
     block-not (now (a .m)) (a .key) f (a .c) (c8 .block-of .ensures) (c12 .pre .2) 23 (c4 .block .given .1)
-    (number-bad (now (a .m)) _ (opened-inside (c8 .block-of .ensures) (c4 .block .given .1)) (sym (c2 .label .ensures) ∙ c .enum-told2 .given .1))
+    (number-bad (now (a .m)) _ (opened-inside (c8 .block-of .ensures) (c4 .block .given .1)) (sym (c2 .label-in .ensures) ∙ c .enum-told2 .given .1))
 
 advance-requires : tie.Need-advance-requires
 advance-requires c κs =
@@ -64,7 +64,7 @@ advance-requires c κs =
     let c14 = c10 .before .before .before .before in
     let a = c14 .args in
     let i = opened-inside (c10 .block-of .ensures) (c6 .block .given .1) in
-    let e = sym (c4 .label .ensures) ∙ c2 .v .given .1 in
+    let e = sym (c4 .label-in .ensures) ∙ c2 .v .given .1 in
     let (j, z) = number-inside (now (a .m)) (c6 .block .given .0 .0) i _ _ e in
     (opened-good (c10 .block-of .ensures) (c6 .block .given .1) (a .c) (c14 .pre .2), c14 .pre .1, inside-small (c14 .pre .0 .small) j .0)
 
@@ -85,7 +85,7 @@ returns-3 c =
     let p = c9 .block .given .0 .0 in
     let i = opened-inside (c13 .block-of .ensures) (c9 .block .given .1) in
     let v = c5 .v .given in
-    let e = sym (c7 .label .ensures) ∙ v .1 in
+    let e = sym (c7 .label-in .ensures) ∙ v .1 in
     let (j, z) = number-inside (now (a .m)) p i _ _ e in
     takes-number _ (toZ-ofZ w64 _ (record { sfits = c4 .known-told2 .given .0 .1 }))
     (block-takes (now (a .m)) (a .key) f (a .c) (c13 .block-of .ensures) (c17 .pre .2) (v .0 .0) (v .0 .1 .0) (c9 .block .given .1) (number-got (now (a .m)) p i _ _ e) z j (c2 .advance .ensures))
@@ -99,7 +99,7 @@ block-number-spec =
     enum-told
     same-length
     returns
-    label-requires
+    label-in-requires
     enum-known-v
     enum-told-2
     same-length-2

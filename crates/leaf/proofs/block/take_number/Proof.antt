@@ -30,8 +30,8 @@ returns c =
     let f = readNumber (inMessage (now (a .m))) in
     takes-in (a .key) f (sym (not-true _ (c4 .if1 .taken)) ∙ c5 .is-inline .ensures) (c2 .block-number .ensures)
 
-label-requires : tie.Need-label-requires
-label-requires c κs = search needs
+label-in-requires : tie.Need-label-in-requires
+label-in-requires c κs = search needs
 
 enum-known-v : tie.Need-enum-known-v
 enum-known-v c = search needs
@@ -48,7 +48,7 @@ returns-2 c =
     let a = c7 .args in
     let f = readNumber (inMessage (now (a .m))) in
     takes-in (a .key) f (sym (not-false _ (c3 .if1 .left)) ∙ c4 .is-inline .ensures)
-    (core-not (now (a .m)) (a .key) f (a .c) (now (a .work)) 23 (number-bad (now (a .m)) (a .c) (c7 .pre .2) (sym (c2 .label .ensures) ∙ c .enum-told .given .1)))
+    (core-not (now (a .m)) (a .key) f (a .c) (now (a .work)) 23 (number-bad (now (a .m)) (a .c) (c7 .pre .2) (sym (c2 .label-in .ensures) ∙ c .enum-told .given .1)))
 
 returns-3 : tie.Need-returns-3
 returns-3 c =
@@ -59,7 +59,7 @@ returns-3 c =
     let a = c8 .args in
     let f = readNumber (inMessage (now (a .m))) in
     let v = c .before .v .given in
-    let e = sym (c3 .label .ensures) ∙ v .1 in
+    let e = sym (c3 .label-in .ensures) ∙ v .1 in
     let j = number-inside (now (a .m)) (a .c) (c8 .pre .2) _ _ e .0 in
     takes-number _ (toZ-ofZ w64 _ (record { sfits = c .known-told .given .0 .1 }))
     (takes-in (a .key) f (sym (not-false _ (c4 .if1 .left)) ∙ c5 .is-inline .ensures) (core-takes (now (a .m)) (a .key) f (a .c) (now (a .work)) (v .0 .0) (v .0 .1 .0) (c8 .pre .0) j (number-got (now (a .m)) (a .c) (c8 .pre .2) _ _ e)))
@@ -72,7 +72,7 @@ take-number-spec =
     block-number-requires
     same-length
     returns
-    label-requires
+    label-in-requires
     enum-known-v
     enum-told
     returns-2
