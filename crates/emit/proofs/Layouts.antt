@@ -17,7 +17,7 @@ use Rattle.label.specs.Laws.{framed}
 use Rattle.store.specs.Store.{put, advanced, unnumbered}
 use Rattle.store.specs.Words.{storeOf, Good, Changes}
 use Rattle.store.specs.Laws.{drop-nth}
-use Rattle.theory.specs.Facts.{absurd-some, some-same}
+use Rattle.laws.specs.Facts.{absurd-some, some-same}
 use Rattle.plan.specs.Layout.{blockSpace, coreLabel, starts, coreStart, messageLength, putLabels, layOut}
 use Rattle.plan.specs.Slots.{under, change-under, Apart, apart-change, apart-middle, put-middle}
 use Rattle.emit.specs.State.{slotsOf, Same}

@@ -15,10 +15,9 @@ use Rattle.format.specs.Table.{Held}
 use Rattle.format.specs.Row.{Place, Text, bytesAt}
 use Rattle.format.specs.Read.{addAt, total, numberLabel, isNumbered}
 use Rattle.format.specs.Write.{text, choose, firstEqual}
-use Rattle.label.specs.Laws.{by-lt}
 use Rattle.store.specs.Store.{Store, lookup, added, rested}
 use Rattle.store.specs.Words.{storeOf, Good, Changes}
-use Rattle.theory.specs.Facts.{absurd-bool, absurd-ok, ok-same, by-bool}
+use Rattle.laws.specs.Facts.{absurd-bool, absurd-ok, ok-same, by-bool, by-lt}
 use Rattle.theory.specs.Lists.{add-here, add-elsewhere}
 use Rattle.plan.specs.Plan.{Plan, emitLiteral, emitCore, emitSlot, emitBytes, emitFront, emitChoice, emitText, emitBody, emitEvent}
 use Rattle.plan.specs.Laws.{slot-new, slot-none, literal-plain, literal-kept, literal-over}

@@ -12,7 +12,7 @@ use Rattle.format.specs.Read.{Reading}
 use Rattle.store.specs.Store.{Store, lookup, put, opened, advanced}
 use Rattle.store.specs.Words.{storeOf, Good, Changes}
 use Rattle.store.specs.Laws.{change-put}
-use Rattle.theory.specs.Facts.{ok-same, need-ok}
+use Rattle.laws.specs.Facts.{ok-same, need-ok}
 use Rattle.plan.specs.Plan.{Plan, coreTo, slotsTo, putBytes, emitCore, emitSlot, emitBytes}
 use Rattle.plan.specs.Slots.{under, most-lookup, lookup-under, change-under}
 use Rattle.emit.specs.declared.Step.{Step}

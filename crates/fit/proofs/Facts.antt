@@ -16,7 +16,7 @@ use Rattle.format.specs.Utf8.{isText}
 use Rattle.format.specs.Table.{string, varint, float64, bytes, fixed}
 use Rattle.format.specs.Row.{Place, Text, bytesAt, rowCount, integerRow, floatRow, stringRow, bytesRow, fixedRow, recordRow}
 use Rattle.format.specs.Write.{Event, Rest, nothing, text, value, mark, unlabelled, littleEndianBytes, fitLeaf}
-use Rattle.theory.specs.Facts.{or-false}
+use Rattle.laws.specs.Facts.{or-false}
 use Rattle.label.specs.Laws.{label-most}
 use Rattle.plan.specs.Plan.{emitFront, emitBody, emitEvent, emitEvents}
 use Rattle.plan.specs.Moves.{bodySize}

@@ -13,7 +13,7 @@ use Rattle.format.specs.Utf8.{isText}
 use Rattle.format.specs.Table.{string, varint, float64, bytes, fixed}
 use Rattle.format.specs.Row.{Row, bare, placed, Place, Text, Cell, bytesAt, rowCount, look, cellOf, integerRow, floatRow, stringRow, bytesRow, fixedRow}
 use Rattle.format.specs.Write.{Event, Rest, next, text, value, unlabelled, isBare, wordIn, textIn, truthIn, littleEndianBytes, fitLeaf}
-use Rattle.theory.specs.Facts.{absurd-some, some-same, need-ok}
+use Rattle.laws.specs.Facts.{absurd-some, some-same, need-ok}
 use Rattle.fit.specs.Rest.{restOf, nextOf, next-look}
 use Rattle.fit.specs.Judged.{placeIn, valueIn, truthOf}
 

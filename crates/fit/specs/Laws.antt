@@ -7,7 +7,7 @@ use native.Mathlib.Omega.{arith}
 use Rattle.format.specs.Answer.{Answer, ok, refuse, _>>=_}
 use Rattle.format.specs.Table.{Held}
 use Rattle.format.specs.Write.{Event, Rest, Fit}
-use Rattle.theory.specs.Facts.{absurd-ok, bind-is}
+use Rattle.laws.specs.Facts.{absurd-ok, bind-is}
 use Rattle.plan.specs.Plan.{Plan, emitEvents}
 use Rattle.plan.specs.Laws.{emit-append}
 use Rattle.plan.specs.Moves.{fine-counts, event-moves}

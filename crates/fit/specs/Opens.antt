@@ -12,7 +12,7 @@ use Rattle.format.specs.Table.{Wire, boolean, array, fields, Node, plain, nulla
 use Rattle.format.specs.Row.{Row, bare, placed, Place, Cell, cellOf, absentRow, nullRow, recordRow, arrayRow}
 use Rattle.format.specs.Read.{fieldCount, absentLabel, nullLabel}
 use Rattle.format.specs.Write.{Event, Rest, next, nothing, mark, unlabelled, isBare, wordIn, truthIn, Fit, markOr, fitEntries, fitField, fitWire, fitNode, fitAll}
-use Rattle.theory.specs.Facts.{absurd-some, absurd-bool, some-same}
+use Rattle.laws.specs.Facts.{absurd-some, absurd-bool, some-same}
 use Rattle.typed.specs.Typed.{isNullable}
 use Rattle.fit.specs.Rest.{restOf, nextOf, next-look}
 use Rattle.fit.specs.Judged.{valueIn, truthOf, gone, frontOf}

@@ -6,24 +6,16 @@
 -- sizes (`label-least` to `number-two`); and a piece with its label in front (`framed`).
 use mathlib.Core.Path.{_≡_, refl, sym, _∙_, ap}
 use mathlib.Core.Logic.{_↔_}
-use mathlib.Core.Bool.{Bool, true, false}
 use mathlib.Core.List.{List, [], _∷_, _++_}
 use mathlib.Core.Option.{Option, none, some}
 use Prim.Native.Nat.{ℕ, zero, suc, _+_, _-_, _*_, _^_, _/_, _%_, _≤_, _<_}
 use native.Mathlib.Nat.{add-zero, add-suc}
 use native.Mathlib.Omega.{arith}
-use lib.Dec.{ltb}
 use lib.IntN.{ℤ, pos, negsuc}
 use lib.ListN.{length, drop}
-use borrow.Author.Tests.{ltb-true, ltb-false, lt-ltb, le-ltb, eq-eqb, ne-eqb}
+use borrow.Author.Tests.{lt-ltb, le-ltb, eq-eqb, ne-eqb}
 use Rattle.format.specs.Label.{zigzag, unzigzag, septets, varint, label, labelSize, continued, readSeptets, within64, readVarint, signedOf, readLabel, word, integer, Signed64, Bytes}
-
-pub by-lt {ℓ} : {P : Type ℓ} (m n : ℕ) → (m < n → P) → (n ≤ m → P) → P
-by-lt {P = P} m n f g = go (ltb m n) refl
-  where
-    go : (b : Bool) → ltb m n ≡ b → P
-    go true e = f (ltb-true m n e)
-    go false e = g (ltb-false m n e)
+use Rattle.laws.specs.Facts.{by-lt}
 
 -- Two's complement.
 

@@ -14,10 +14,11 @@ use Rattle.format.specs.Answer.{needAt, _>>=_}
 use Rattle.format.specs.Modes.{has, inlineEverything}
 use Rattle.format.specs.Label.{zigzag, unzigzag}
 use Rattle.format.specs.Read.{isLabel, takeLabel, ownLabel, noLabel, isNumbered}
+use Rattle.laws.specs.Facts.{by-lt}
 use Rattle.label.specs.declared.cursor.Cursor.{Cursor}
 use Rattle.label.specs.declared.cursor.Label as label
 use Rattle.label.specs.Cursor.{labelAt}
-use Rattle.label.specs.Laws.{by-lt, unzigzag-zigzag}
+use Rattle.label.specs.Laws.{unzigzag-zigzag}
 use Rattle.pieces.specs.Pieces.{Inside}
 use Rattle.leaf.specs.declared.front.Front.{Front}
 use Rattle.leaf.specs.declared.front.Front.the-variants.{Open, Label}

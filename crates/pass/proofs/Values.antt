@@ -17,7 +17,7 @@ use Rattle.format.specs.Table as tables
 use Rattle.format.specs.Row.{rowCount, arrayRow}
 use Rattle.format.specs.Read.{isNumbered, fieldCount}
 use Rattle.format.specs.Write.{Event, Rest, Fit, mark, fitEntries, fitField, fitLeaf, fitWire, fitNode, fitAll}
-use Rattle.label.specs.Laws.{by-lt}
+use Rattle.laws.specs.Facts.{by-lt}
 use Rattle.theory.specs.Says.{ok-says}
 use Rattle.theory.specs.Sent.{length-shown}
 use Rattle.table.specs.declared.nodes.Leaf as code

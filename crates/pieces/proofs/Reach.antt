@@ -7,8 +7,8 @@ use native.Mathlib.Omega.{arith}
 use lib.ListN.{length}
 use Rattle.format.specs.Answer.{ok, refuse, _>>=_}
 use Rattle.format.specs.Read.{Reading, split}
+use Rattle.laws.specs.Facts.{by-lt}
 use Rattle.label.specs.Cursor.{cursor}
-use Rattle.label.specs.Laws.{by-lt}
 use Rattle.label.specs.declared.cursor.Cursor.{Cursor}
 use Rattle.pieces.specs.declared.Parts.the-variants.{Found, Bad}
 use Rattle.pieces.specs.Chain.{piecesFrom, Piece, NoPiece, Chain, here, past, piece-step, no-piece, nothing-left, chain-le, split-found, split-refused, split-empty}

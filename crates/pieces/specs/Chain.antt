@@ -14,7 +14,8 @@ use borrow.Author.Tests.{le-leb, lt-leb, eq-eqb, ne-eqb}
 use Rattle.format.specs.Answer.{Answer, ok, refuse, _>>=_, _>>_, needAt, orRefuse}
 use Rattle.format.specs.Label.{readLabel}
 use Rattle.format.specs.Read.{Reading, pieces, sizeOf, lastOf, blocksAndCore, split}
-use Rattle.label.specs.Laws.{by-lt, some-parts}
+use Rattle.laws.specs.Facts.{by-lt}
+use Rattle.label.specs.Laws.{some-parts}
 
 -- the pieces of m from the label at `at` on
 abbrev pub piecesFrom : List ℕ → ℕ → Answer (List Reading)

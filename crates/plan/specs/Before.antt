@@ -15,7 +15,7 @@ use Rattle.format.specs.Table.{Held}
 use Rattle.format.specs.Row.{Text}
 use Rattle.format.specs.Read.{total}
 use Rattle.format.specs.Write.{Body, nothing, text, value, Event, Draft, addBytes, putLabel, putValue, putLiteral, putFront, putChoice, putBody, putEvents}
-use Rattle.theory.specs.Facts.{by-bool}
+use Rattle.laws.specs.Facts.{by-bool}
 use Rattle.theory.specs.Lists.{total-add}
 use Rattle.theory.specs.Blocks.{bytes-here, bytes-behind}
 use Rattle.plan.specs.Slots.{under}

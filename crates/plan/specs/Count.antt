@@ -15,9 +15,8 @@ use Rattle.format.specs.Table.{Held}
 use Rattle.format.specs.Row.{Text}
 use Rattle.format.specs.Read.{total, isNumbered}
 use Rattle.format.specs.Write.{Body, nothing, text, value, Event, Draft, addBytes, choose, putLabel, putValue, putLiteral, putFront, putChoice, putBody, putEvents, valuesOf, distinct, differentValues}
-use Rattle.label.specs.Laws.{by-lt}
 use Rattle.store.specs.Store.{lookup, change}
-use Rattle.theory.specs.Facts.{absurd-bool, by-bool, by-option}
+use Rattle.laws.specs.Facts.{absurd-bool, by-bool, by-option, by-lt}
 use Rattle.theory.specs.Start.{noDraft, draft, Keys}
 use Rattle.theory.specs.Lists.{total-add, sumTo, sum-total}
 use Rattle.theory.specs.Literals.{none-yet, front-literals, value-literals, name-literals, numbered-true, draft-literals, different, draft-total}

@@ -13,7 +13,7 @@ use Rattle.format.specs.Table.{Held}
 use Rattle.format.specs.Row.{Text}
 use Rattle.format.specs.Read.{numberLabel, addAt, total, isNumbered}
 use Rattle.format.specs.Write.{Body, nothing, text, value, Event, Draft, choose, putLabel, putValue, putLiteral, putFront, putChoice, putBody, putEvents}
-use Rattle.theory.specs.Facts.{ok-bind}
+use Rattle.laws.specs.Facts.{ok-bind}
 use Rattle.theory.specs.Lists.{total-add}
 use Rattle.plan.specs.Plan.{Plan, literalsTo, emitLiteral, emitLabel, emitFront, emitValue, emitChoice, emitText, emitBody, emitEvent, emitEvents}
 use Rattle.plan.specs.Laws.{literal-plain, literal-kept}

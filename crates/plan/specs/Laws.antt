@@ -15,7 +15,7 @@ use Rattle.format.specs.Row.{Text}
 use Rattle.format.specs.Read.{numberLabel, addAt, total, isNumbered}
 use Rattle.format.specs.Write.{Event, choose}
 use Rattle.store.specs.Store.{lookup, change}
-use Rattle.theory.specs.Facts.{ok-bind, refuse-bind, need-yes, need-no}
+use Rattle.laws.specs.Facts.{ok-bind, refuse-bind, need-yes, need-no}
 use Rattle.plan.specs.Plan.{Plan, coreTo, slotsTo, literalsTo, putBytes, emitLiteral, emitCore, emitLabel, emitSlot, emitBytes, emitValue, emitChoice, emitText, emitEvent, emitEvents}
 
 bind-end : {A : Type 0} (m : Answer A) → (m >>= (λ a. ok a)) ≡ m

@@ -15,9 +15,9 @@ use Rattle.format.specs.Table.{Held}
 use Rattle.format.specs.Row.{Text}
 use Rattle.format.specs.Read.{numberLabel, total, isNumbered}
 use Rattle.format.specs.Write.{Body, nothing, text, value, Event}
-use Rattle.label.specs.Laws.{by-lt, label-most}
+use Rattle.label.specs.Laws.{label-most}
 use Rattle.store.specs.Store.{lookup}
-use Rattle.theory.specs.Facts.{absurd-ok, absurd-bool, ok-same}
+use Rattle.laws.specs.Facts.{absurd-ok, absurd-bool, ok-same, by-lt}
 use Rattle.plan.specs.Plan.{Plan, slotsTo, putBytes, emitLiteral, emitCore, emitLabel, emitSlot, emitBytes, emitFront, emitChoice, emitText, emitBody, emitEvent, emitEvents}
 use Rattle.plan.specs.Slots.{most, most-change, most-append, Apart, apart-change, apart-append}
 use Rattle.plan.specs.Laws.{put-not, put-fits, put-over, slot-new, slot-none, literal-plain, literal-kept, literal-over}

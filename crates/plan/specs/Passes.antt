@@ -11,7 +11,7 @@ use Rattle.format.specs.Answer.{Answer, ok, _>>=_, _>>_, need, needAt}
 use Rattle.format.specs.Modes.{inlineEverything}
 use Rattle.format.specs.Table.{Held}
 use Rattle.format.specs.Write.{Event, messageOf}
-use Rattle.theory.specs.Facts.{ok-bind}
+use Rattle.laws.specs.Facts.{ok-bind}
 use Rattle.theory.specs.Start.{Keys}
 use Rattle.theory.specs.Literals.{different}
 use Rattle.plan.specs.Plan.{Plan, blank, emitEvents}

@@ -12,7 +12,7 @@ use Rattle.format.specs.Read.{nth}
 use Rattle.format.specs.Write.{addBytes}
 use Rattle.store.specs.Store.{lookup, change, put}
 use Rattle.store.specs.Laws.{lookup-append-other, bytes-touched, bytes-new}
-use Rattle.theory.specs.Facts.{absurd-some, by-bool, by-option, some-same}
+use Rattle.laws.specs.Facts.{absurd-some, by-bool, by-option, some-same}
 
 -- One key after another.
 

@@ -11,7 +11,7 @@ use lib.Seq.{sets, sets-eq}
 use borrow.Author.Tests.{le-leb, lt-leb}
 use Rattle.format.specs.Answer.{Answer, ok, refuse, _>>=_, _>>_, need, needAt, number, second, zeros}
 use Rattle.format.specs.Table.{u16, nodeAt, atRoot, Node, Schema, isMarked, rightCount, rightAlone, each, tree, agrees, heldBy, schemaOf, check}
-use Rattle.table.specs.Cases.{then-elim, need-true, ok-inj}
+use Rattle.laws.specs.Facts.{then-elim, need-true, ok-same}
 use Rattle.table.specs.Tree.{ends, Ends}
 use Rattle.table.specs.Built.{Built, few-keys, length-ends}
 use Rattle.table.specs.Checked.{count-right, alone-at, tree-is}
@@ -53,7 +53,7 @@ module _ (t : List ℕ) where
       then-elim (need (isMarked t) 10) _ e λ a₁ e₁.
       then-elim (need (eqb (u16 t 3) 1) 11) _ e₁ λ a₂ e₂.
       then-elim (need (rightCount (u16 t 5) (length t)) 12) _ e₂ λ a₃ e₃.
-      (sym (ok-inj e₃), rw (← ok-inj e₃) (need-true _ 12 0 a₃))
+      (sym (ok-same e₃), rw (← ok-same e₃) (need-true _ 12 0 a₃))
 
   module _ {first : Step} (h : first ≡ stepOf (λ n. n) (headerOf t)) where
     pub header-refuses : {work : List ℕ} {x y : ℕ} → first ≡ Refused x y → Kept work first (schemaOf t)

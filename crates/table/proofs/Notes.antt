@@ -10,7 +10,7 @@ use lib.Seq.{length-take-le, getD-set-same, getD-set-other, getD-take, getD-appe
 use borrow.Author.Tests.{eq-eqb, ne-eqb, eqb-true, eqb-false}
 use Rattle.format.specs.Answer.{zeros}
 use Rattle.format.specs.Table.{TableNode, BLOCK, firstFrom, isBlockOf, firstBlock, alike, agrees}
-use Rattle.table.specs.Cases.{by-lt}
+use Rattle.laws.specs.Facts.{by-lt}
 use Rattle.table.specs.Passes.{First, Note, noteIn, Notes, firstOf, Beside}
 
 -- ---- a note, for any test

@@ -10,7 +10,7 @@ use lib.ListN.{length, getD}
 use borrow.Author.Tests.{ne-eqb, lt-ltb, le-ltb, le-leb, leb-true}
 use Rattle.format.specs.Answer.{ok, refuse, _>>_, needAt}
 use Rattle.format.specs.Table.{TableNode, u16, omittable, Context, kindMayStand, omittableMayStand, mayStand, stands, isMarked, rightCount, each}
-use Rattle.table.specs.Cases.{by-lt}
+use Rattle.laws.specs.Facts.{by-lt}
 use Rattle.table.specs.Passes.{stepOf, headerOf}
 use Rattle.table.specs.declared.step.Step.the-variants.{Next, Refused}
 

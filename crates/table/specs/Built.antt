@@ -12,7 +12,7 @@ use borrow.Author.Tests.{ltb-true, leb-true, eqb-true, eqb-false, not-true}
 use Rattle.format.specs.Answer.{Answer, ok, needAt}
 use Rattle.format.specs.Table.{TableNode, STRING, BOOLEAN, VARINT, FLOAT64, BYTES, FIXED, RECORD, ARRAY, BLOCK, NULLABLE, omittable, deduplicate, mostArgument, rightAlone, Context, atRoot, inRecord, inArray, inNullable, inBlock, isTextual, isLeaf, kindMayStand, omittableMayStand, mayStand, Wire, boolean, array, fields, block, Node, plain, nullable, Fields, noField, field, Held, wireOf, leafOf, Shape, nothing, children, child, leaf, optional, shapeOf, stands, buildFields, below, build}
 use Rattle.format.specs.Read.{fieldCount}
-use Rattle.table.specs.Cases.{by-lt, ok-pair, refuse-ok, bind-elim, then-elim, need-true}
+use Rattle.laws.specs.Facts.{by-lt, ok-pair, absurd-ok, bind-elim, then-elim, need-true, or-false}
 use Rattle.table.specs.Tree.{sizeWire, size, sizeFields, depthWire, depth, depthFields, belowWire, ends, endsFields, Ends, HasWire, Has, HasFields}
 
 -- A kind by its shape.
@@ -72,10 +72,6 @@ array-free k e = not-true (isLeaf k) e
 nullable-free : LeafFree inNullable
 unfolding LeafFree kindMayStand
 nullable-free k e = not-true (isLeaf k) (and-eq-true-iff (not (isLeaf k)) (not (eqb k NULLABLE)) .0 e .0)
-
-or-false : (a b : Bool) → (a || b) ≡ false → (a ≡ false) × (b ≡ false)
-or-false true b e = (e, cc)
-or-false false b e = (refl, e)
 
 down : {k : ℕ} (m : ℕ) → k ≤ suc m → (k ≡ suc m → ⊥) → k ≤ m
 down m h z = omega arith
@@ -298,7 +294,7 @@ module _ (n : ℕ) (at : ℕ → TableNode) where
 
   pub plain-below : (path i j : ℕ) (w : Node) → build n at path inNullable i ≡ ok (w, j) → w ≡ plain i (wireOf w)
   unfolding build
-  plain-below zero i j w e = refuse-ok e
+  plain-below zero i j w e = absurd-ok e
   plain-below (suc path) i j w e = then-elim (stands n at (suc path) inNullable i) _ e λ q e₁.
       plain-by path i j w (shapeOf (at i .kind)) (shape-kind (at i .kind)) (not-nullable _ (kind-stands inNullable i (standing (suc path) inNullable i q .may))) e₁
 
@@ -322,7 +318,7 @@ module _ (n : ℕ) (at : ℕ → TableNode) where
 
   pub built : (path : ℕ) (c : Context) (i j : ℕ) (w : Node) → build n at path c i ≡ ok (w, j) → Built path c i j w
   unfolding build
-  built zero c i j w e = refuse-ok e
+  built zero c i j w e = absurd-ok e
   built (suc path) c i j w e = then-elim (stands n at (suc path) c i) _ e λ q e₁.
       let t = standing (suc path) c i q in
       below-built path (built path) c i (t .inside) (kind-stands c i (t .may)) (shapeOf (at i .kind)) (shape-kind (at i .kind)) j w e₁

@@ -11,7 +11,7 @@ use borrow.Author.Tests.{leb-true, eqb-true}
 use Rattle.format.specs.Answer.{ok, need, needAt}
 use Rattle.format.specs.Table.{boolean, array, fields, block, plain, nullable, u16, TableNode, nodeAt, BLOCK, deduplicate, rightAlone, atRoot, Node, Held, Schema, leafOf, each, build, tree, firstBlock, heldBy, alike, agrees, isMarked, rightCount, schemaOf, check}
 use Rattle.format.specs.Read.{nodesOf, wireNodes}
-use Rattle.table.specs.Cases.{by-lt, ok-inj, bind-elim, then-elim, need-true}
+use Rattle.laws.specs.Facts.{by-lt, ok-same, bind-elim, then-elim, need-true}
 use Rattle.table.specs.Tree.{size, depth, depthWire, ends, Ends, Has}
 use Rattle.table.specs.Built.{Alone, alone, Right, Built, built, root-free}
 
@@ -50,7 +50,7 @@ module _ (n : ℕ) (at : ℕ → TableNode) where
   tree-built : (w : Node) → tree n at ≡ ok w → build n at 32 atRoot 0 ≡ ok (w, n)
   unfolding tree
   tree-built w e = bind-elim (build n at 32 atRoot 0) _ e λ p q e₁. then-elim (needAt (eqb (p .1) n) 14 (p .1)) _ e₁ λ a b.
-      q ∙ ap (λ (v : Node). ok (v, p .1)) (ok-inj b) ∙ ap (λ (k : ℕ). ok (w, k)) (eqb-true (p .1) n (need-true _ 14 (p .1) a))
+      q ∙ ap (λ (v : Node). ok (v, p .1)) (ok-same b) ∙ ap (λ (k : ℕ). ok (w, k)) (eqb-true (p .1) n (need-true _ 14 (p .1) a))
 
 -- A table that the check accepts, and the schema that it makes.
 pub record Checked (table : List ℕ) (s : Schema) : Type 0 where
@@ -97,7 +97,7 @@ module _ (table : List ℕ) where
       then-elim (each (u16 table 5) (λ i. rightAlone (nodeAt table i)) 13) _ e₃ λ a₄ e₄.
       bind-elim (tree (u16 table 5) (nodeAt table)) _ e₄ λ w a₅ e₅.
       then-elim (each (u16 table 5) (λ i. agrees (u16 table 5) (nodeAt table) i) 15) _ e₅ λ a₆ e₆.
-      rw (← ok-inj e₆) (checked-by (u16 table 5) (need-true _ 12 0 a₃) a₄ w a₅ refl a₆)
+      rw (← ok-same e₆) (checked-by (u16 table 5) (need-true _ 12 0 a₃) a₄ w a₅ refl a₆)
 
 -- «1: work has fewer than 16,384 words» comes before.
 pub check-accepts : (work : ℕ) (table : List ℕ) (s : Schema) → check work table ≡ ok s → (16384 ≤ work) × (schemaOf table ≡ ok s)

@@ -17,7 +17,7 @@ use Rattle.format.specs.Row.{bare, placed, Text, Cell, nullRow, absentRow, inte
 use Rattle.format.specs.Read.{Read, nullLabel, absentLabel, errorLabel, isLabel, isRight, littleEndian, nodesOf, fieldCount, truthOf, countOf, isNull, readNumber, readBytes, takeLabel, takeRow, oneRow, rowOr, entries, ownLabel, noLabel, value as readValue, fromKey, readText, leaf, wire, node, all, walk}
 use Rattle.format.specs.Write.{Body, nothing, text, value, Event, mark, unlabelled, Rest, next, isBare, littleEndianBytes, Fit, markOr, fitEntries, fitField, fitLeaf, fitWire, fitNode, fitAll}
 use Rattle.label.specs.Laws.{read-label, word-integer, integer-signed}
-use Rattle.theory.specs.Facts.{absurd-ok, absurd-some, by-bool, bind-elim, need-ok, orRefuse-ok, ok-pair, some-same, some-pair, ok-bind, ok-then, need-yes}
+use Rattle.laws.specs.Facts.{absurd-ok, absurd-some, by-bool, bind-elim, need-ok, orRefuse-ok, ok-pair, some-same, some-pair, ok-bind, ok-then, need-yes}
 use Rattle.theory.specs.Plain.{plain, PlainState}
 use Rattle.theory.specs.Run.{Spells, itself, error, Front, no-label, a-label, Taken, no-body, a-text, a-number, some-bytes, Step, step, Run, end, next as next-step, rawSize}
 use Rattle.theory.specs.Rights.{no-front, a-front, RightBody, right-nothing, right-text, right-number, right-bytes, Rights, none-left, one-more, rights-append}

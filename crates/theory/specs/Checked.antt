@@ -8,7 +8,7 @@ use lib.Dec.{ltb, leb, eqb}
 use borrow.Author.Tests.{ltb-true, ltb-false, leb-true, eqb-true}
 use Rattle.format.specs.Answer.{Answer, ok}
 use Rattle.format.specs.Table.{TableNode, nodeAt, u16, deduplicate, mostArgument, rightAlone, mayStand, Context, inRecord, inArray, inNullable, inBlock, atRoot, Wire, boolean, array, fields, block, Node, plain, nullable, Fields, noField, field, Schema, wireOf, Shape, nothing, children, child, leaf, optional, shapeOf, each, stands, buildFields, below, build, tree, schemaOf, BLOCK, RECORD, ARRAY, NULLABLE, STRING}
-use Rattle.theory.specs.Facts.{absurd-ok, by-bool, and-true, bind-elim, then-elim, need-ok, need-true, ok-same, ok-pair}
+use Rattle.laws.specs.Facts.{absurd-ok, by-bool, and-true, bind-elim, then-elim, need-ok, need-true, ok-same, ok-pair}
 use Rattle.theory.specs.Depth.{depthWire, depth, depthFields}
 
 -- every key is one of the 32

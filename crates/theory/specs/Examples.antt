@@ -16,7 +16,7 @@ use Rattle.format.specs.Row
 use Rattle.format.specs.Read
 use Rattle.format.specs.Write
 use Rattle.format.specs.Claims
-use Rattle.theory.specs.Facts.{absurd-ok, and-true}
+use Rattle.laws.specs.Facts.{absurd-ok, and-true}
 use Rattle.theory.specs.Shown.{count-words}
 use Rattle.theory.specs.Premises.{small-tree}
 

@@ -1,4 +1,3 @@
-pub mod Facts
 pub mod Lists
 pub mod Plain
 pub mod Run

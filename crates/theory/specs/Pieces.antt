@@ -15,7 +15,7 @@ use Rattle.format.specs.Label.{label, labelSize, readLabel, Signed64, zigzag}
 use Rattle.format.specs.Read.{Reading, sizeOf, pieces, lastOf, blocksAndCore, split}
 use Rattle.format.specs.Write.{Draft, piece, blockPieces, pieceBytes}
 use Rattle.label.specs.Laws.{framed, read-label, label-length, label-least}
-use Rattle.theory.specs.Facts.{absurd-ok, bind-elim, need-ok, need-yes, orRefuse-ok, ok-bind, ok-same, ok-pair, some-or, bind-is}
+use Rattle.laws.specs.Facts.{absurd-ok, bind-elim, need-ok, need-yes, orRefuse-ok, ok-bind, ok-same, ok-pair, some-or, bind-is}
 use Rattle.theory.specs.Framed.{sumFramed, framedAll, framed-last}
 use Rattle.theory.specs.Places.{leftIn}
 use Rattle.theory.specs.Inside.{Each, none-left, one-more}

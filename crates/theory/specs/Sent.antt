@@ -15,7 +15,7 @@ use Rattle.format.specs.Table.{Schema}
 use Rattle.format.specs.Row.{Row, bare, placed, Place, Text, Cell, cellOf, bytesAt, isInside, words, rowAt, shownAt, shownFrom, shown, rowWidth, rowCount}
 use Rattle.format.specs.Read.{Reading, State, inMessage, split, walk, isDone}
 use Rattle.format.specs.Write.{Event, Rest, Draft, fitNode, eventsOf, pieceBytes, areWhole, messageOf, encode}
-use Rattle.theory.specs.Facts.{absurd-some, by-bool, and-true, bind-elim, need-ok, ok-same, some-same, bind-is, need-is}
+use Rattle.laws.specs.Facts.{absurd-some, by-bool, and-true, bind-elim, need-ok, ok-same, some-same, bind-is, need-is}
 use Rattle.theory.specs.Lists.{empty-list}
 use Rattle.theory.specs.Plain.{plain, PlainState}
 use Rattle.theory.specs.Depth.{depth}

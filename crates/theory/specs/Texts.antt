@@ -14,7 +14,7 @@ use Rattle.format.specs.Read.{nth}
 use Rattle.format.specs.Write.{sameText, further, firstEqual, unlessThere, distinctAfter}
 use Rattle.format.specs.Claims.{In}
 use Rattle.theory.specs.Lists.{nth-lt, nth-getD}
-use Rattle.theory.specs.Facts.{absurd-some, by-bool, by-option, and-true, some-same}
+use Rattle.laws.specs.Facts.{absurd-some, by-bool, by-option, and-true, some-same}
 
 same-eq : (a b : Text) → sameText a b ≡ true → a ≡ b
 unfolding sameText

@@ -7,7 +7,7 @@ use lib.Dec.{eqb}
 use lib.ListN.{length}
 use Rattle.format.specs.Answer.{Answer, ok, _>>=_, need, number}
 use Rattle.format.specs.Table.{u16, nodeAt, rightAlone, each, tree, agrees, isMarked, rightCount, Held, Schema, schemaOf, check}
-use Rattle.table.specs.Cases.{ok-inj, bind-elim, then-elim}
+use Rattle.laws.specs.Facts.{ok-same, bind-elim, then-elim}
 use Rattle.table.specs.Tree.{depth, Ends, Has}
 use Rattle.table.specs.Passes.{Leaves}
 use Rattle.table.specs.Built.{length-ends}
@@ -25,7 +25,7 @@ held-of table s e =
     then-elim (each (u16 table 5) (λ i. rightAlone (nodeAt table i)) 13) _ e₃ λ a₄ e₄.
     bind-elim (tree (u16 table 5) (nodeAt table)) _ e₄ λ w a₅ e₅.
     then-elim (each (u16 table 5) (λ i. agrees (u16 table 5) (nodeAt table) i) 15) _ e₅ λ a₆ e₆.
-    rw (← ok-inj e₆) refl
+    rw (← ok-same e₆) refl
 
 module _ {table work : List ℕ} (k : Kept table work) where
   right : Checked table (k .schema)

@@ -9,7 +9,7 @@ use Rattle.format.specs.Table.{check}
 use Rattle.format.specs.Write.{writeChecked, write}
 use Rattle.table.specs.Passes.{Leaves}
 use Rattle.table.specs.Refusals.{refusal-is, refused-zeros}
-use Rattle.theory.specs.Facts.{refuse-bind}
+use Rattle.laws.specs.Facts.{refuse-bind}
 use Rattle.typed.specs.Root.{check-then}
 use Rattle.writer.specs.Writer.{messageIn}
 use Rattle.writer.specs.Demands as demands

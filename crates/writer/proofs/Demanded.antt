@@ -13,9 +13,8 @@ use Rattle.format.specs.Row.{Row, Place, words, shown, SameTree}
 use Rattle.format.specs.Read.{read}
 use Rattle.format.specs.Write.{eventsOf, encode, writeChecked, write}
 use Rattle.format.specs.Claims as claims
-use Rattle.label.specs.Laws.{by-lt}
 use Rattle.table.specs.Refusals.{Numbered, numbered-check}
-use Rattle.theory.specs.Facts.{absurd-bool}
+use Rattle.laws.specs.Facts.{absurd-bool, by-lt}
 use Rattle.theory.specs.Says.{Says, says-ok, says-refuse, says-bind, says-need, says-more, Any}
 use Rattle.theory.specs.Answered.{answers}
 use Rattle.theory.specs.Calls.{writes, no-room}

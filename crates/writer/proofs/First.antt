@@ -15,7 +15,7 @@ use Rattle.format.specs.Read.{nth}
 use Rattle.format.specs.Write.{Event, Rest, fitField, eventsOf}
 use Rattle.store.specs.Store.{empty}
 use Rattle.store.specs.Words.{Changes}
-use Rattle.theory.specs.Facts.{absurd-some, bind-is}
+use Rattle.laws.specs.Facts.{absurd-some, bind-is}
 use Rattle.theory.specs.Lists.{empty-lists}
 use Rattle.theory.specs.Sent.{length-shown}
 use Rattle.plan.specs.Plan.{blank, emitEvents}

@@ -9,7 +9,7 @@ use lib.Seq.{take-at}
 use Rattle.format.specs.Answer.{ok}
 use Rattle.format.specs.Modes.{inlineEverything}
 use Rattle.format.specs.Write.{Rest, fitField, messageOf}
-use Rattle.theory.specs.Facts.{ok-same, bind-elim, need-ok}
+use Rattle.laws.specs.Facts.{ok-same, bind-elim, need-ok}
 use Rattle.theory.specs.Start.{Keys}
 use Rattle.theory.specs.Checked as theory
 use Rattle.theory.specs.Bodies.{fit-keys}

@@ -14,8 +14,7 @@ use Rattle.format.specs.Modes.{has, among, areAllowed, inlineEverything, noDedu
 use Rattle.format.specs.Table.{Schema, Held}
 use Rattle.format.specs.Row.{rowCount, shown}
 use Rattle.format.specs.Write.{Event, areWhole, eventsOf, messageOf, encode, writeChecked}
-use Rattle.theory.specs.Facts.{bind-is, need-no, need-yes}
-use Rattle.label.specs.Laws.{by-lt}
+use Rattle.laws.specs.Facts.{bind-is, need-no, need-yes, by-lt}
 use Rattle.theory.specs.Literals.{different}
 use Rattle.theory.specs.Sent.{sizes}
 use Rattle.plan.specs.Layout.{messageLength}

@@ -2,8 +2,10 @@
 use mathlib.Core.Path.{_≡_, refl, sym, ap}
 use mathlib.Core.Bool.{Bool, true, false, cond, _&&_, _||_}
 use mathlib.Core.Option.{Option, none, some}
-use Prim.Native.Nat.{ℕ}
+use Prim.Native.Nat.{ℕ, _<_, _≤_}
 use native.Mathlib.Omega.{arith}
+use lib.Dec.{ltb}
+use borrow.Author.Tests.{ltb-true, ltb-false}
 use Rattle.format.specs.Answer.{Answer, ok, refuse, _>>=_, _>>_, needAt, orRefuse}
 
 -- What never holds.
@@ -22,6 +24,9 @@ absurd-some e = absurd (let z : _≡_ {A = ℕ} 0 1 = cc in omega arith)
 pub by-bool {ℓ} : {P : Type ℓ} (b : Bool) → (b ≡ true → P) → (b ≡ false → P) → P
 by-bool true f g = f refl
 by-bool false f g = g refl
+
+pub by-lt {ℓ} : {P : Type ℓ} (m n : ℕ) → (m < n → P) → (n ≤ m → P) → P
+by-lt m n f g = by-bool (ltb m n) (λ e. f (ltb-true m n e)) (λ e. g (ltb-false m n e))
 
 pub by-option {ℓ} : {A : Type 0} {P : Type ℓ} (o : Option A) → ((a : A) → o ≡ some a → P) → (o ≡ none → P) → P
 by-option none f g = g refl
