@@ -1,6 +1,6 @@
 -- What looking at a row answers, against the kind that is wanted. Assumes nothing.
 use mathlib.Core.Path.{_≡_, refl, ap, sym, _∙_}
-use mathlib.Core.Bool.{Bool, true, false, cond, _&&_}
+use mathlib.Core.Bool.{Bool, true, false, cond, and-false}
 use mathlib.Core.List.{[], _∷_}
 use mathlib.Core.Option.{Option, none, some}
 use Prim.Native.Nat.{ℕ, _≤_}
@@ -48,10 +48,6 @@ no-word kind (Float f b) l h = absurd (miss (0 ∷ 1 ∷ 2 ∷ 5 ∷ 7 ∷ []) 4
 no-word kind (At k start size) l h = refl
 no-word kind (Count k n) l h = absurd (miss (0 ∷ 1 ∷ 2 ∷ 5 ∷ 7 ∷ []) 6 tt h)
 no-word kind (Refused n) l h = refl
-
-and-false : (b : Bool) → (b && false) ≡ false
-and-false true = refl
-and-false false = refl
 
 -- a row that is neither absent nor null, where looking at it is not refused
 no-gone : (o z : Bool) (s : Seen) → OneOf (2 ∷ 3 ∷ 4 ∷ 5 ∷ 6 ∷ []) (tagOf the-type s) → rightCase s → frontOf o z (seen s) ≡ some none

@@ -1,6 +1,6 @@
 -- What stands in front of a value, the row of a record, of an array and of a truth, and how the definition goes on from there.
 use mathlib.Core.Path.{_≡_, refl, sym, ap, _∙_}
-use mathlib.Core.Bool.{Bool, true, false, cond, _&&_, _||_}
+use mathlib.Core.Bool.{Bool, true, false, cond, _&&_, _||_, and-false}
 use mathlib.Core.List.{List, [], _∷_}
 use mathlib.Core.Option.{Option, none, some}
 use Prim.Native.Nat.{ℕ, _+_, _^_, _<_}
@@ -12,21 +12,12 @@ use Rattle.format.specs.Table.{Wire, boolean, array, fields, Node, plain, nulla
 use Rattle.format.specs.Row.{Row, bare, placed, Place, Cell, cellOf, absentRow, nullRow, recordRow, arrayRow}
 use Rattle.format.specs.Read.{fieldCount, absentLabel, nullLabel}
 use Rattle.format.specs.Write.{Event, Rest, next, nothing, mark, unlabelled, isBare, wordIn, truthIn, Fit, markOr, fitEntries, fitField, fitWire, fitNode, fitAll}
-use Rattle.laws.specs.Facts.{absurd-some, absurd-bool, some-same}
+use Rattle.laws.specs.Facts.{absurd-some, absurd-bool, some-same, bind-then}
 use Rattle.typed.specs.Typed.{isNullable}
 use Rattle.fit.specs.Rest.{restOf, nextOf, next-look}
 use Rattle.fit.specs.Judged.{valueIn, truthOf, gone, frontOf}
 use Rattle.fit.specs.Laws.{joined}
 use Rattle.fit.specs.Fits.{looked, judge-is, judge-not, truth-judged, word-found, word-missing}
-
-and-false : (b : Bool) → (b && false) ≡ false
-and-false true = refl
-and-false false = refl
-
-bind-then : {A B C : Type 0} (m : Answer A) (f : A → Answer C) (g : A → Answer B) (h : B → Answer C) → ((a : A) → f a ≡ (g a >>= h)) → (m >>= f) ≡ (m >>= g >>= h)
-unfolding _>>=_
-bind-then (ok a) f g h e = e a
-bind-then (refuse n j) f g h e = refl
 
 need-then : {A B : Type 0} (b : Bool) (n j : ℕ) (a : A) (h : A → Answer B) → (needAt b n j >> h a) ≡ ((needAt b n j >> ok a) >>= h)
 unfolding needAt _>>_ _>>=_

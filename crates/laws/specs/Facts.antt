@@ -144,3 +144,14 @@ bind-is f p q = rw p q
 pub need-is : {B : Type 0} {t : Bool} (r i : ℕ) {m n : Answer B} → t ≡ true → m ≡ n → (needAt t r i >> m) ≡ n
 unfolding needAt _>>_
 need-is r i p q = rw p q
+
+-- what follows an answer, in another form
+pub bind-same : {A B : Type 0} (m : Answer A) (f g : A → Answer B) → ((a : A) → f a ≡ g a) → (m >>= f) ≡ (m >>= g)
+unfolding _>>=_
+bind-same (ok a) f g e = e a
+bind-same (refuse r i) f g e = refl
+
+pub bind-then : {A B C : Type 0} (m : Answer A) (f : A → Answer C) (g : A → Answer B) (h : B → Answer C) → ((a : A) → f a ≡ (g a >>= h)) → (m >>= f) ≡ (m >>= g >>= h)
+unfolding _>>=_
+bind-then (ok a) f g h e = e a
+bind-then (refuse r i) f g h e = refl

@@ -2,7 +2,7 @@
 use native.Mathlib.Omega.{arith}
 use denote.Enum.Declared.{tagOf}
 use types.Run.{OneOf}
-use mathlib.Core.Path.{_≡_, refl, sym, ap}
+use mathlib.Core.Path.{_≡_, refl, ap}
 use mathlib.Core.Bool.{Bool, true, false}
 use mathlib.Core.Logic.{inl, inr}
 use mathlib.Core.List.{List, [], _∷_}
@@ -16,6 +16,7 @@ use Rattle.format.specs.Modes.{inlineEverything}
 use Rattle.format.specs.Row.{Place, Row, bare, placed, rowWords, stringRow, bytesRow, fixedRow, integerRow, floatRow, trueRow, falseRow}
 use Rattle.format.specs.Table.{Leaf, string, varint, float64, bytes, fixed, Held}
 use Rattle.format.specs.Read.{inMessage, State, isLabel, truthOf, littleEndian, readNumber, readBytes, atKey, fromKey, noLabel, oneRow, leaf, wire}
+use Rattle.laws.specs.Facts.{bind-then}
 use Rattle.label.specs.declared.cursor.Cursor.{Cursor}
 use Rattle.label.specs.declared.cursor.Label.{Label}
 use Rattle.label.specs.declared.cursor.Label.the-variants.{Got, Bad}
@@ -26,7 +27,6 @@ use Rattle.leaf.specs.declared.block.Part.{Part}
 use Rattle.leaf.specs.declared.block.Part.the-variants as part
 use Rattle.leaf.specs.declared.block.Number.{Number}
 use Rattle.leaf.specs.declared.block.Number.the-variants as number
-use Rattle.leaf.specs.Answers.{bind-then}
 use Rattle.leaf.specs.State.{mostRows, Walks, Does, Took, Takes}
 use Rattle.leaf.specs.Does.{along, refuses}
 use Rattle.leaf.specs.Takes.{took-ready, took-inside, then-does, then-refuses}
@@ -135,11 +135,11 @@ module _ (m : List ℕ) (modes key : ℕ) {front : Front} (w : List ℕ) (c : Cu
 module _ (m : List ℕ) (modes key : ℕ) (h : Held) (front : Option ℤ) (w : List ℕ) (c : Cursor) (n : ℕ) {w₁ l l₁ : List ℕ} {x : Leaf} {r : Part} {s : Step} (t : Takes m w w₁ c (partOf r) (textOf m modes h key front)) where
   pub string-row : x ≡ string → PutsPart n stringRow r l l₁ s → Walks m w w₁ c n l l₁ s (leaf (inMessage m) modes (λ k. h) key x front)
   unfolding leaf
-  string-row e p = rw e (along (sym (bind-then _ _ _ _ (λ x. refl))) (p .does m w w₁ _ (t .took (mostRows (length l)) n)))
+  string-row e p = rw e (along (bind-then _ _ _ _ (λ x. refl)) (p .does m w w₁ _ (t .took (mostRows (length l)) n)))
 
   pub bytes-row : x ≡ bytes → PutsPart n bytesRow r l l₁ s → Walks m w w₁ c n l l₁ s (leaf (inMessage m) modes (λ k. h) key x front)
   unfolding leaf
-  bytes-row e p = rw e (along (sym (bind-then _ _ _ _ (λ x. refl))) (p .does m w w₁ _ (t .took (mostRows (length l)) n)))
+  bytes-row e p = rw e (along (bind-then _ _ _ _ (λ x. refl)) (p .does m w w₁ _ (t .took (mostRows (length l)) n)))
 
 -- a tag that is none of theirs
 no-text : (tag : ℕ) → OneOf (0 ∷ 3 ∷ []) tag → 1 ≤ tag → (tag ≡ 3 → ⊥) → ⊥

@@ -7,11 +7,11 @@ use Prim.Native.Nat.{ℕ}
 use lib.IntN.{ℤ, pos, negsuc}
 use Rattle.format.specs.Table.{Leaf, string, varint, float64, bytes, fixed, Held}
 use Rattle.format.specs.Read.{Source, State, inMessage, fromKey, readText, leaf}
+use Rattle.laws.specs.Facts.{bind-same}
 use Rattle.label.specs.declared.cursor.Cursor.{Cursor}
 use Rattle.table.specs.Held.{leafIn}
 use Rattle.table.specs.declared.nodes.Leaf as code
 use Rattle.leaf.specs.declared.Step.{Step}
-use Rattle.leaf.specs.Answers.{bind-same}
 use Rattle.leaf.specs.State.{Walks}
 use Rattle.leaf.specs.Does.{along}
 use Rattle.leaf.specs.Meaning.{heldLeaf, heldOf}

@@ -1,5 +1,4 @@
 -- The definitions that the contracts cite, and laws of them.
-pub mod Answers
 pub mod State
 pub mod Push
 pub mod Does

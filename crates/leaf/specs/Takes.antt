@@ -5,11 +5,11 @@ use Prim.Native.Nat.{ℕ}
 use Rattle.format.specs.Answer.{Answer, ok, refuse, _>>=_}
 use Rattle.format.specs.Row.{Place, Row}
 use Rattle.format.specs.Read.{inMessage, State}
+use Rattle.laws.specs.Facts.{ok-pair, absurd-ok}
 use Rattle.label.specs.declared.cursor.Cursor.{Cursor}
 use Rattle.pieces.specs.Pieces.{Inside}
 use Rattle.leaf.specs.declared.Step.{Step}
 use Rattle.leaf.specs.declared.Step.the-variants.{Refused}
-use Rattle.leaf.specs.Answers.{ok-parts, no-answer}
 use Rattle.leaf.specs.State.{Ready, stateOf, Same, Does, Took}
 use Rattle.leaf.specs.Does.{along, refuses, same-self, holds-then}
 
@@ -27,19 +27,19 @@ module _ {X : Type 0} {m : List ℕ} {most n : ℕ} where
   module _ {w w₁ : List ℕ} {r : Answer (X × Cursor)} where
     pub took-is : {x : X} {c : Cursor} (a : Answer (X × State (inMessage m))) → Took m most w w₁ n r a → r ≡ ok (x, c) → a ≡ ok (x, stateOf m most w₁ c n)
     took-is (ok y) t q =
-        let (e, k) = ok-parts (sym q ∙ t .answer) in
+        let (e, k) = ok-pair (sym q ∙ t .answer) in
         ap₂ (λ (z : X) (s : State (inMessage m)). ok (z, s)) (sym e) (sym (t .left .state) ∙ ap (λ d. stateOf m most w₁ d n) (sym k))
-    took-is (refuse e i) t q = no-answer (sym (t .answer) ∙ q)
+    took-is (refuse e i) t q = absurd-ok (sym (t .answer) ∙ q)
 
     pub took-not : {e i : ℕ} (a : Answer (X × State (inMessage m))) → Took m most w w₁ n r a → r ≡ refuse e i → a ≡ refuse e i
-    took-not (ok y) t q = no-answer (sym q ∙ t .answer)
+    took-not (ok y) t q = absurd-ok (sym q ∙ t .answer)
     took-not (refuse e i) t q = sym (cc (t .answer))
 
     took-kept : {x : X} {c : Cursor} (a : Answer (X × State (inMessage m))) → Took m most w w₁ n r a → r ≡ ok (x, c) → Ready m w₁ × Inside m c × Same w w₁
     took-kept (ok y) t q =
-        let (e, k) = ok-parts (sym q ∙ t .answer) in
+        let (e, k) = ok-pair (sym q ∙ t .answer) in
         (t .left .ready, subst (λ (d : Cursor). Inside m d) (sym k) (t .left .inside), t .left .same)
-    took-kept (refuse e i) t q = no-answer (sym (t .answer) ∙ q)
+    took-kept (refuse e i) t q = absurd-ok (sym (t .answer) ∙ q)
 
     pub took-ready : {x : X} {c : Cursor} (a : Answer (X × State (inMessage m))) → Took m most w w₁ n r a → r ≡ ok (x, c) → Ready m w₁
     took-ready a t q = took-kept a t q .0

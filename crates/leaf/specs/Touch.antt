@@ -1,5 +1,5 @@
 -- A key's block: what the format does at it, in two steps, of which the first gives the block to the key if that touches it for the first time.
-use mathlib.Core.Path.{_≡_, refl, ap}
+use mathlib.Core.Path.{_≡_, refl, sym, ap}
 use mathlib.Core.Bool.{Bool, true, false}
 use mathlib.Core.List.{List, [], _∷_, _++_}
 use mathlib.Core.Option.{Option, none, some}
@@ -9,9 +9,9 @@ use lib.Dec.{eqb}
 use borrow.Author.Tests.{eq-eqb}
 use Rattle.format.specs.Answer.{Answer, ok, refuse, _>>=_}
 use Rattle.format.specs.Read.{Source, State, atKey}
+use Rattle.laws.specs.Facts.{ok-pair, absurd-ok, bind-then}
 use Rattle.store.specs.Store.{lookup, change, put}
 use Rattle.store.specs.Laws.{at-touched, at-new, at-none, lookup-append}
-use Rattle.leaf.specs.Answers.{ok-parts, no-answer, bind-then}
 
 -- a block added behind those of other keys is the one that is put there next
 put-append : {X : Type 0} (k : ℕ) (bs : List (ℕ × X)) (p q : X) → lookup k bs ≡ none → put k q (bs ++ (k, p) ∷ []) ≡ bs ++ (k, q) ∷ []
@@ -38,9 +38,9 @@ module _ (A : Source) (k : ℕ) where
 
   given-has : (s s₁ : State A) (p : A .Piece) (o : Option (A .Piece)) (ps : List (A .Piece)) → lookup k (s .blocks) ≡ o → given o ps s ≡ ok (p, s₁) → lookup k (s₁ .blocks) ≡ some p
   unfolding given
-  given-has s s₁ p (some q) ps h e = let (a, b) = ok-parts e in rw (← b, h, a)
-  given-has s s₁ p none [] h e = no-answer e
-  given-has s s₁ p none (q ∷ ps) h e = let (a, b) = ok-parts e in rw (← b, lookup-append k (s .blocks) q h, a)
+  given-has s s₁ p (some q) ps h e = let (a, b) = ok-pair e in rw (← b, h, a)
+  given-has s s₁ p none [] h e = absurd-ok e
+  given-has s s₁ p none (q ∷ ps) h e = let (a, b) = ok-pair e in rw (← b, lookup-append k (s .blocks) q h, a)
 
   pub touch-has : (s s₁ : State A) (p : A .Piece) → touch s ≡ ok (p, s₁) → lookup k (s₁ .blocks) ≡ some p
   unfolding touch
@@ -50,9 +50,9 @@ module _ (A : Source) (k : ℕ) where
     at-given : (o : Option (A .Piece)) (ps : List (A .Piece)) → lookup k (s .blocks) ≡ o → s .waiting ≡ ps
         → atKey A false k f s ≡ (given o ps s >>= (λ t. f (t .0) >>= (λ r. ok (r .0, putBlock (r .1) (t .1)))))
     unfolding given atKey _>>=_
-    at-given (some p) ps h e = rw (at-touched A k f (s .blocks) (s .waiting) h) (bind-then (f p) _ _ _ (λ r. refl))
+    at-given (some p) ps h e = rw (at-touched A k f (s .blocks) (s .waiting) h) (sym (bind-then (f p) _ _ _ (λ r. refl)))
     at-given none [] h e = rw (e, at-none A k f (s .blocks) h)
-    at-given none (q ∷ ps) h e = rw (e, at-new A k f (s .blocks) q ps h) (bind-then (f q) _ _ _ (λ r. rw (put-append k (s .blocks) q (r .1) h)))
+    at-given none (q ∷ ps) h e = rw (e, at-new A k f (s .blocks) q ps h) (sym (bind-then (f q) _ _ _ (λ r. rw (put-append k (s .blocks) q (r .1) h))))
 
     pub at-key : atKey A false k f s ≡ (touch s >>= (λ t. f (t .0) >>= (λ r. ok (r .0, putBlock (r .1) (t .1)))))
     unfolding touch

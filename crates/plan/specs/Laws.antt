@@ -15,18 +15,13 @@ use Rattle.format.specs.Row.{Text}
 use Rattle.format.specs.Read.{numberLabel, addAt, total, isNumbered}
 use Rattle.format.specs.Write.{Event, choose}
 use Rattle.store.specs.Store.{lookup, change}
-use Rattle.laws.specs.Facts.{ok-bind, refuse-bind, need-yes, need-no}
+use Rattle.laws.specs.Facts.{ok-bind, refuse-bind, need-yes, need-no, bind-then}
 use Rattle.plan.specs.Plan.{Plan, coreTo, slotsTo, literalsTo, putBytes, emitLiteral, emitCore, emitLabel, emitSlot, emitBytes, emitValue, emitChoice, emitText, emitEvent, emitEvents}
 
 bind-end : {A : Type 0} (m : Answer A) → (m >>= (λ a. ok a)) ≡ m
 unfolding _>>=_
 bind-end (ok a) = refl
 bind-end (refuse r i) = refl
-
-bind-more : {A B C : Type 0} (m : Answer A) (f : A → Answer C) (g : A → Answer B) (h : B → Answer C) → ((a : A) → f a ≡ (g a >>= h)) → (m >>= f) ≡ (m >>= g >>= h)
-unfolding _>>=_
-bind-more (ok a) f g h e = e a
-bind-more (refuse r i) f g h e = refl
 
 module _ (at : ℕ) (bs out : List ℕ) where
   pub put-not : putBytes false at bs out ≡ ok out
@@ -117,4 +112,4 @@ module _ (put : Bool) (modes : ℕ) (held : ℕ → Held) where
   pub emit-append : (es fs : List Event) (p : Plan) → emitEvents put modes held (es ++ fs) p ≡ (emitEvents put modes held es p >>= (λ q. emitEvents put modes held fs q))
   unfolding emitEvents
   emit-append [] fs p = sym (ok-bind p _)
-  emit-append (e ∷ es) fs p = bind-more (emitEvent put modes held e p) _ _ _ (λ q. emit-append es fs q)
+  emit-append (e ∷ es) fs p = bind-then (emitEvent put modes held e p) _ _ _ (λ q. emit-append es fs q)

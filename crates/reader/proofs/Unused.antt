@@ -1,6 +1,6 @@
 -- Whether everything has been read, as the code tells it: a reading place inside the message has been read when it stands at its end.
 use mathlib.Core.Path.{_≡_, refl, sym, ap, _∙_}
-use mathlib.Core.Bool.{Bool, true, false, cond, _&&_}
+use mathlib.Core.Bool.{Bool, true, false, cond, _&&_, and-false, and-true}
 use mathlib.Core.List.{List}
 use mathlib.Core.Option.{some, Option·some-injective}
 use Prim.Native.Nat.{ℕ, zero, suc, _+_, _-_, _<_, _≤_}
@@ -87,14 +87,6 @@ unfolding allRead
 left-none w i x h = record { is = λ m g. x .is m g ∙ rw (drop-of-length-le (storeOf w .slots) h) refl }
 
 -- ---- core, blocks given and blocks that wait
-
-and-false : (b : Bool) → (b && false) ≡ false
-and-false true = refl
-and-false false = refl
-
-and-true : (b : Bool) → (b && true) ≡ b
-and-true true = refl
-and-true false = refl
 
 module _ (w : List ℕ) (c : Cursor) where
   pub core-left : (c .at ≡ c .end → ⊥) → IsDone w c false
