@@ -11,8 +11,8 @@ use Rattle.format.specs.Modes.{has, inlineEverything, noDeduplication}
 use Rattle.format.specs.Table.{nodeAt, omittable, Node, Fields, field, Held}
 use Rattle.format.specs.Read.{fieldCount}
 use Rattle.format.specs.Write.{Event, Rest, Fit, fitEntries, fitAll}
-use Rattle.table.specs.Tree.{size, depthFields}
-use Rattle.table.specs.Kinds.{node-top, by-no-field}
+use Rattle.laws.specs.Tree.{size, depthFields}
+use Rattle.laws.specs.Kinds.{node-top, by-no-field}
 use Rattle.store.specs.Words.{word}
 use Rattle.typed.specs.Typed.{Sized, heldIn, IsNode, AreFields, FitsNode, FitFields}
 use Rattle.typed.specs.Nodes.{node-kept, node-inside, First, first-of, first-depth}

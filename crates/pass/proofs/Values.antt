@@ -21,7 +21,7 @@ use Rattle.laws.specs.Facts.{by-lt}
 use Rattle.theory.specs.Says.{ok-says}
 use Rattle.theory.specs.Sent.{length-shown}
 use Rattle.table.specs.declared.nodes.Leaf as code
-use Rattle.table.specs.Kinds.{by-boolean, by-array, by-record, by-block}
+use Rattle.laws.specs.Kinds.{by-boolean, by-array, by-record, by-block}
 use Rattle.table.specs.Held.{leafIn, leaf-held, dedup-held}
 use Rattle.typed.specs.Typed.{heldIn, IsNode, IsWire, AreFields, FitsNode, FitsWire, FitFields, below}
 use Rattle.typed.specs.Nodes.{nullable-is, wire-of, fits-wire, fits-fields}

@@ -7,8 +7,8 @@ use Rattle.format.specs.Answer.{refuse, _>>=_, number, second, output, zeros}
 use Rattle.format.specs.Table.{check}
 use Rattle.format.specs.Row.{words}
 use Rattle.format.specs.Read.{readChecked, read}
-use Rattle.table.specs.Passes.{Leaves}
-use Rattle.table.specs.Refusals.{refusal-is, refused-zeros}
+use Rattle.table.specs.Passes.{Leaves, refused-zeros}
+use Rattle.laws.specs.Refusals.{refusal-is}
 use Rattle.typed.specs.Root.{check-then}
 use Rattle.reader.specs.Reader.{rowsOf}
 

@@ -12,9 +12,9 @@ use borrow.Author.Tests.{le-leb, lt-leb}
 use Rattle.format.specs.Answer.{Answer, ok, refuse, _>>=_, _>>_, need, needAt, number, second, zeros}
 use Rattle.format.specs.Table.{u16, nodeAt, atRoot, Node, Schema, isMarked, rightCount, rightAlone, each, tree, agrees, heldBy, schemaOf, check}
 use Rattle.laws.specs.Facts.{then-elim, need-true, ok-same}
-use Rattle.table.specs.Tree.{ends, Ends}
-use Rattle.table.specs.Built.{Built, few-keys, length-ends}
-use Rattle.table.specs.Checked.{count-right, alone-at, tree-is}
+use Rattle.laws.specs.Tree.{ends, Ends}
+use Rattle.laws.specs.Built.{Built, few-keys, length-ends}
+use Rattle.laws.specs.Checked.{count-right, alone-at, tree-is}
 use Rattle.table.specs.Passes.{stepOf, headerOf, schemaFrom, Planted, StoredTree, Kept, StoredSchema, Leaves, Whole, Beside}
 use Rattle.table.specs.declared.step.Step.{Step}
 use Rattle.table.specs.declared.step.Step.the-variants.{Next, Refused}

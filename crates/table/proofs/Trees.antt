@@ -12,8 +12,8 @@ use lib.Seq.{sets, set-comm}
 use borrow.Author.Tests.{eq-eqb, ne-eqb}
 use Rattle.format.specs.Answer.{Answer, ok, refuse, _>>=_, _>>_, needAt}
 use Rattle.format.specs.Table.{TableNode, RECORD, ARRAY, BLOCK, NULLABLE, omittable, deduplicate, Context, atRoot, inRecord, inArray, inNullable, inBlock, boolean, array, fields, block, Node, plain, nullable, Fields, noField, field, wireOf, leaf, shapeOf, stands, buildFields, below, build, tree}
-use Rattle.table.specs.Tree.{size, belowWire, endsBelow, ends, endsFields}
-use Rattle.table.specs.Built.{standing, built, plain-below, length-ends}
+use Rattle.laws.specs.Tree.{size, belowWire, endsBelow, ends, endsFields}
+use Rattle.laws.specs.Built.{standing, built, plain-below, length-ends}
 use Rattle.table.specs.Passes.{stepOf, Stored, Makes, Planted}
 use Rattle.table.specs.declared.step.Step.{Step}
 use Rattle.table.specs.declared.step.Step.the-variants.{Next, Refused}

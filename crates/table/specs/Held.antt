@@ -2,7 +2,7 @@
 use mathlib.Core.Path.{_≡_, sym, ap}
 use Prim.Native.Nat.{ℕ, _+_}
 use Rattle.format.specs.Table.{TableNode, deduplicate, Leaf, string, varint, float64, bytes, fixed, Held, leafOf}
-use Rattle.table.specs.Tree.{HasBlock}
+use Rattle.laws.specs.Tree.{HasBlock}
 use Rattle.table.specs.declared.nodes.Leaf as code
 
 unfoldable pub leafIn : Leaf → code.Leaf

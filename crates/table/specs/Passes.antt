@@ -1,14 +1,15 @@
 -- What the passes of the check answer and leave in the work, in the terms of the code.
-use mathlib.Core.Path.{_≡_}
+use mathlib.Core.Path.{_≡_, subst}
 use mathlib.Core.Bool.{Bool, true, false, cond, _||_}
 use mathlib.Core.List.{List}
 use Prim.Native.Nat.{ℕ, _+_, _-_, _*_, _<_, _≤_}
 use lib.Dec.{leb, eqb}
 use lib.ListN.{length, getD}
 use lib.Seq.{sets}
-use Rattle.format.specs.Answer.{Answer, ok, refuse, _>>=_, _>>_, need, zeros}
-use Rattle.format.specs.Table.{u16, TableNode, nodeAt, BLOCK, Context, atRoot, inRecord, inArray, inNullable, inBlock, Node, Schema, isMarked, rightCount, rightAlone, each, tree, agrees, heldBy, isBlockOf}
-use Rattle.table.specs.Tree.{ends, Ends}
+use Rattle.format.specs.Answer.{Answer, ok, refuse, need, number, zeros, _>>=_, _>>_}
+use Rattle.format.specs.Table.{u16, TableNode, nodeAt, BLOCK, Context, atRoot, inRecord, inArray, inNullable, inBlock, Node, Schema, isMarked, rightCount, rightAlone, each, tree, agrees, heldBy, isBlockOf, check}
+use Rattle.laws.specs.Tree.{ends, Ends}
+use Rattle.laws.specs.Refusals.{refusal-is}
 use Rattle.table.specs.declared.step.Step.{Step}
 use Rattle.table.specs.declared.step.Step.the-variants.{Next, Refused}
 use Rattle.table.specs.declared.tree.Parent.{Parent}
@@ -76,6 +77,9 @@ pub record Kept (now : List ℕ) (r : Step) (schema : Answer Schema) : Type 0 wh
 abbrev pub Leaves : List ℕ → ℕ → Answer Schema → Type 0
 Leaves now lent (ok s) = Ends (λ i. getD now i 0) 0 (ends 0 (s .root))
 Leaves now lent (refuse r i) = now ≡ zeros lent
+
+pub refused-zeros : (work : ℕ) (table : List ℕ) {now : List ℕ} → (number (check work table) ≡ 0 → ⊥) → Leaves now work (check work table) → now ≡ zeros work
+refused-zeros work table {now} z h = subst (λ (m : Answer Schema). Leaves now work m) (refusal-is (λ s. s .count) (check work table) z) h
 
 -- What 13 and 14 have shown of a table's nodes before 15 looks at the keys.
 pub record Whole (table : List ℕ) (n : ℕ) : Type 0 where

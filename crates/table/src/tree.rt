@@ -3,7 +3,7 @@ ghost use mathlib.Core.Path.{_≡_};
 ghost use Prim.Native.Nat.{_+_, _*_, _≤_, _<_};
 ghost use lib.ListN.{length};
 ghost use Rattle.format.specs.Table.{nodeAt, isTextual, isLeaf, kindMayStand, omittableMayStand, mayStand, stands, Shape, inRecord, build, buildFields, below, shapeOf, tree};
-ghost use Rattle.table.specs.Tree.{ends, endsBelow, endsFields};
+ghost use Rattle.laws.specs.Tree.{ends, endsBelow, endsFields};
 ghost use Rattle.table.specs.Passes.{contextOf, stepOf, Makes, Planted};
 use super::nodes;
 use super::step::Step;

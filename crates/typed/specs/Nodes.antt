@@ -7,9 +7,9 @@ use native.Mathlib.Omega.{arith}
 use lib.Dec.{eqb}
 use lib.ListN.{length}
 use Rattle.format.specs.Table.{u16, nodeAt, omittable, BOOLEAN, RECORD, ARRAY, BLOCK, NULLABLE, Wire, boolean, array, fields, block, Node, plain, nullable, Fields, field, wireOf}
-use Rattle.format.specs.Read.{wireNodes, nodesOf, fieldCount}
-use Rattle.table.specs.Tree.{sizeWire, size, depthWire, depth, depthFields, Has, HasWire}
-use Rattle.table.specs.Kinds.{kindOf, kindOfNode, wire-top, node-top, by-record, by-array, by-field, has-kept}
+use Rattle.format.specs.Read.{fieldCount}
+use Rattle.laws.specs.Tree.{sizeWire, size, depthWire, depth, depthFields, Has, HasWire}
+use Rattle.laws.specs.Kinds.{kindOf, kindOfNode, wire-top, node-top, by-record, by-array, by-field, has-kept}
 use Rattle.store.specs.Words.{word}
 use Rattle.typed.specs.Typed.{Sized, heldIn, IsNode, IsWire, AreFields, FitsNode, FitsWire, FitFields, isNullable, below, pathTo}
 
@@ -31,19 +31,6 @@ depth-some boolean = omega arith
 depth-some (array w) = omega arith
 depth-some (fields ws) = omega arith
 depth-some (block key) = omega arith
-
--- a value's own nodes are on its path
-wire-nodes : (v : Wire) → wireNodes v ≤ depthWire v
-unfolding wireNodes depthWire
-wire-nodes boolean = omega arith
-wire-nodes (array w) = omega arith
-wire-nodes (fields ws) = omega arith
-wire-nodes (block key) = omega arith
-
-pub nodes-depth : (v : Node) → nodesOf v ≤ depth v
-unfolding nodesOf depth
-nodes-depth (plain i w) = wire-nodes w
-nodes-depth (nullable i w) = let h = wire-nodes w in omega arith
 
 wire-depth : (v : Node) → depthWire (wireOf v) ≤ depth v
 unfolding depth wireOf

@@ -8,11 +8,11 @@ use lib.ListN.{length}
 use Rattle.format.specs.Answer.{Answer, ok, _>>=_, need, number}
 use Rattle.format.specs.Table.{u16, nodeAt, rightAlone, each, tree, agrees, isMarked, rightCount, Held, Schema, schemaOf, check}
 use Rattle.laws.specs.Facts.{ok-same, bind-elim, then-elim}
-use Rattle.table.specs.Tree.{depth, Ends, Has}
+use Rattle.laws.specs.Tree.{depth, Ends, Has}
 use Rattle.table.specs.Passes.{Leaves}
-use Rattle.table.specs.Built.{length-ends}
-use Rattle.table.specs.Checked.{Checked, checked, check-accepts}
-use Rattle.table.specs.Refusals.{by-ok, numbered-check}
+use Rattle.laws.specs.Built.{length-ends}
+use Rattle.laws.specs.Checked.{Checked, checked, check-accepts}
+use Rattle.laws.specs.Refusals.{by-ok, numbered-check}
 use Rattle.store.specs.Words.{word}
 use Rattle.typed.specs.Typed.{Sized, heldIn, IsNode, FitsNode, Kept}
 

@@ -7,7 +7,7 @@ use lib.ListN.{length}
 use Rattle.format.specs.Answer.{ok}
 use Rattle.format.specs.Table.{u16, nodeAt, Wire, Node, plain, nullable, Fields, Held, Schema, heldBy, schemaOf}
 use Rattle.format.specs.Read.{fieldCount}
-use Rattle.table.specs.Tree.{depthWire, depth, depthFields, ends, Ends, HasWire, Has, HasFields}
+use Rattle.laws.specs.Tree.{depthWire, depth, depthFields, ends, Ends, HasWire, Has, HasFields}
 use Rattle.store.specs.Words.{word}
 
 -- the nodes stand in the table

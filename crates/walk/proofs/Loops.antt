@@ -10,8 +10,8 @@ use Rattle.format.specs.Answer.{Answer, ok, _>>=_}
 use Rattle.format.specs.Table.{nodeAt, omittable, Node, Fields, field, Held}
 use Rattle.format.specs.Row.{Place, Row}
 use Rattle.format.specs.Read.{inMessage, State, Read, entries, all, fieldCount}
-use Rattle.table.specs.Tree.{size, depth, depthFields}
-use Rattle.table.specs.Kinds.{node-top, by-no-field}
+use Rattle.laws.specs.Tree.{size, depth, depthFields}
+use Rattle.laws.specs.Kinds.{node-top, by-no-field}
 use Rattle.label.specs.declared.cursor.Cursor.{Cursor}
 use Rattle.pieces.specs.Pieces.{Inside}
 use Rattle.store.specs.Words.{word}

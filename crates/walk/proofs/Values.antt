@@ -12,8 +12,9 @@ use Rattle.format.specs.Answer.{Answer, ok, _>>=_, _>>_, needAt}
 use Rattle.format.specs.Table.{u16, nodeAt, deduplicate, NULLABLE, BOOLEAN, RECORD, ARRAY, BLOCK, Node, Fields, Leaf, leafOf, wireOf}
 use Rattle.format.specs.Row.{Place, Row, bare, rowWords, recordRow, arrayRow}
 use Rattle.format.specs.Read.{inMessage, State, ownLabel, countOf, takeRow, entries, wire, all, leaf, fieldCount}
-use Rattle.table.specs.Tree.{depthWire, depth, depthFields, HasFields}
-use Rattle.table.specs.Kinds.{by-boolean, by-record, by-array, by-block}
+use Rattle.laws.specs.Checked.{nodes-depth}
+use Rattle.laws.specs.Tree.{depthWire, depth, depthFields, HasFields}
+use Rattle.laws.specs.Kinds.{by-boolean, by-record, by-array, by-block}
 use Rattle.table.specs.Held.{leafIn, leaf-held, dedup-held}
 use Rattle.label.specs.declared.cursor.Cursor.{Cursor}
 use Rattle.label.specs.declared.cursor.Label as label
@@ -35,7 +36,7 @@ use Rattle.leaf.specs.Held.{held-walks}
 use Rattle.leaf.specs.Contracts.{Owns, Bare, PutsRow, Boolean}
 use Rattle.store.specs.Words.{word}
 use Rattle.typed.specs.Typed.{heldIn, IsNode, IsWire, FitsNode, FitsWire, FitFields, isNullable, below, pathTo}
-use Rattle.typed.specs.Nodes.{nodes-depth, nullable-is, wire-of, path-wire, fits-wire, fits-fields}
+use Rattle.typed.specs.Nodes.{nullable-is, wire-of, path-wire, fits-wire, fits-fields}
 use Rattle.walk.specs.declared.opening.Opening as opening
 use Rattle.walk.specs.Opening.{opened, openedOf, Opens, rest, valueAt}
 use Rattle.walk.specs.Walk.{ReadsValue, ReadsWire, ReadsFields, ReadsEntries}

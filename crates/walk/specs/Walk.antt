@@ -7,7 +7,7 @@ use Prim.Native.Nat.{ℕ, _+_, _≤_}
 use lib.IntN.{ℤ}
 use Rattle.format.specs.Table.{TableNode, omittable, Wire, Node, Fields}
 use Rattle.format.specs.Read.{inMessage, entries, wire, all, fieldCount}
-use Rattle.table.specs.Tree.{depthWire, depth, depthFields}
+use Rattle.laws.specs.Tree.{depthWire, depth, depthFields}
 use Rattle.label.specs.declared.cursor.Cursor.{Cursor}
 use Rattle.store.specs.Words.{word}
 use Rattle.leaf.specs.declared.Step.{Step}

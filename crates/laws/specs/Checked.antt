@@ -9,11 +9,11 @@ use lib.Dec.{leb, eqb}
 use lib.ListN.{length}
 use borrow.Author.Tests.{leb-true, eqb-true}
 use Rattle.format.specs.Answer.{ok, need, needAt}
-use Rattle.format.specs.Table.{boolean, array, fields, block, plain, nullable, u16, TableNode, nodeAt, BLOCK, deduplicate, rightAlone, atRoot, Node, Held, Schema, leafOf, each, build, tree, firstBlock, heldBy, alike, agrees, isMarked, rightCount, schemaOf, check}
+use Rattle.format.specs.Table.{Wire, boolean, array, fields, block, plain, nullable, u16, TableNode, nodeAt, BLOCK, deduplicate, rightAlone, atRoot, Node, Held, Schema, leafOf, each, build, tree, firstBlock, heldBy, alike, agrees, isMarked, rightCount, schemaOf, check}
 use Rattle.format.specs.Read.{nodesOf, wireNodes}
 use Rattle.laws.specs.Facts.{by-lt, ok-same, bind-elim, then-elim, need-true}
-use Rattle.table.specs.Tree.{size, depth, depthWire, ends, Ends, Has}
-use Rattle.table.specs.Built.{Alone, alone, Right, Built, built, root-free}
+use Rattle.laws.specs.Tree.{size, depth, depthWire, ends, Ends, Has}
+use Rattle.laws.specs.Built.{Alone, alone, Right, Built, built, root-free}
 
 -- Each of the first n passes the test.
 pub each-passes : (n : ℕ) (test : ℕ → Bool) (r : ℕ) → each n test r ≡ ok tt → (i : ℕ) → i < n → test i ≡ true
@@ -105,13 +105,14 @@ unfolding check
 check-accepts work table s e = then-elim (need (leb 16384 work) 1) _ e λ a b. (leb-true 16384 work (need-true _ 1 0 a), b)
 
 -- A value's own nodes are among those of its longest path: a walk that has room for the path never answers 33.
-pub nodes-deep : (w : Node) → nodesOf w ≤ depth w
-unfolding nodesOf wireNodes depth depthWire
-nodes-deep (plain i boolean) = omega arith
-nodes-deep (plain i (array w)) = omega arith
-nodes-deep (plain i (fields ws)) = omega arith
-nodes-deep (plain i (block key)) = omega arith
-nodes-deep (nullable i boolean) = omega arith
-nodes-deep (nullable i (array w)) = omega arith
-nodes-deep (nullable i (fields ws)) = omega arith
-nodes-deep (nullable i (block key)) = omega arith
+wire-nodes : (v : Wire) → wireNodes v ≤ depthWire v
+unfolding wireNodes depthWire
+wire-nodes boolean = omega arith
+wire-nodes (array w) = omega arith
+wire-nodes (fields ws) = omega arith
+wire-nodes (block key) = omega arith
+
+pub nodes-depth : (v : Node) → nodesOf v ≤ depth v
+unfolding nodesOf depth
+nodes-depth (plain i w) = wire-nodes w
+nodes-depth (nullable i w) = omega (arith, wire-nodes w)

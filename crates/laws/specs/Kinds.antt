@@ -4,7 +4,7 @@ use Prim.Native.Nat.{ℕ, suc, _+_, _<_, _≤_}
 use native.Mathlib.Omega.{arith}
 use Rattle.format.specs.Table.{TableNode, BOOLEAN, RECORD, ARRAY, BLOCK, NULLABLE, omittable, Wire, boolean, array, fields, block, Node, plain, nullable, Fields, noField, field, Held}
 use Rattle.format.specs.Read.{fieldCount}
-use Rattle.table.specs.Tree.{sizeWire, size, sizeFields, Top, HasBlock, HasWire, Has, HasFields}
+use Rattle.laws.specs.Tree.{sizeWire, size, sizeFields, Top, HasBlock, HasWire, Has, HasFields}
 
 -- the kind of the topmost node
 unfoldable pub kindOf : Wire → ℕ
