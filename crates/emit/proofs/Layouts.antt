@@ -3,15 +3,14 @@ use mathlib.Core.Path.{_≡_, refl, sym, ap, _∙_}
 use mathlib.Core.Bool.{Bool, true, false}
 use mathlib.Core.List.{List, [], _∷_, _++_, append-assoc}
 use mathlib.Core.Option.{some}
-use Prim.Native.Nat.{ℕ, zero, suc, _+_, _/_, _%_, _^_, _≤_}
+use Prim.Native.Nat.{ℕ, zero, suc, _+_, _≤_}
 use native.Mathlib.Numerals.{add-one}
 use native.Mathlib.Omega.{arith}
 use lib.IntN.{pos}
 use lib.ListN.{length, set, drop, drop-of-length-le, length-append, length-map}
 use lib.Seq.{sets, length-sets}
-use borrow.Author.Tests.{eq-eqb, ne-eqb}
 use Rattle.format.specs.Label.{label, labelSize}
-use Rattle.format.specs.Modes.{has, inlineEverything, header}
+use Rattle.format.specs.Modes.{inlineEverything, header}
 use Rattle.format.specs.Read.{Reading, nth}
 use Rattle.label.specs.Laws.{framed}
 use Rattle.store.specs.Store.{put, advanced, unnumbered}
@@ -166,14 +165,6 @@ module _ (core : ℕ) (xs : List (ℕ × ℕ)) where
   pub length-blocks : (inline : Bool) → 1 + blockSpace xs + core ≤ messageLength inline core xs
   unfolding messageLength coreStart
   length-blocks inline = omega arith
-
-pub inline-is : (modes : ℕ) → modes % 2 ≡ 1 → inlineEverything modes ≡ true
-unfolding has
-inline-is modes e = eq-eqb (modes / 2 ^ 0 % 2) 1 (omega arith)
-
-pub inline-not : (modes : ℕ) → (modes % 2 ≡ 1 → ⊥) → inlineEverything modes ≡ false
-unfolding has
-inline-not modes e = ne-eqb (modes / 2 ^ 0 % 2) 1 (λ z. e (omega arith))
 
 module _ (modes core : ℕ) {w w₁ w₂ out out₁ : List ℕ} {at : ℕ} (l : LaysBlocks w w₁ (set out 0 (header modes)) out₁ at) (c : Changes w₁ w₂ unnumbered) where
   lays : {out₂ : List ℕ} {r : ℕ} → out₂ ≡ layOut modes core (slotsOf w) out → r ≡ coreStart (inlineEverything modes) core (slotsOf w) → LaysOut modes core w w₂ out out₂ r

@@ -3,7 +3,7 @@ use mathlib.Core.Path.{_≡_, refl, sym, ap, _∙_}
 use mathlib.Core.Bool.{Bool, true, false, _||_}
 use mathlib.Core.List.{List, [], _∷_}
 use mathlib.Core.Option.{none, some}
-use Prim.Native.Nat.{ℕ, zero, suc, _+_, _/_, _^_, _<_, _≤_}
+use Prim.Native.Nat.{ℕ, zero, suc, _+_, _^_, _<_, _≤_}
 use native.Mathlib.Omega.{arith}
 use lib.IntN.{ℤ, pos}
 use native.Mathlib.Nat.{zero-add, suc-add}
@@ -16,6 +16,7 @@ use Rattle.format.specs.Utf8.{isText}
 use Rattle.format.specs.Table.{string, varint, float64, bytes, fixed}
 use Rattle.format.specs.Row.{Place, Text, bytesAt, rowCount, integerRow, floatRow, stringRow, bytesRow, fixedRow, recordRow}
 use Rattle.format.specs.Write.{Event, Rest, nothing, text, value, mark, unlabelled, littleEndianBytes, fitLeaf}
+use Rattle.laws.specs.Lists.{little-length}
 use Rattle.laws.specs.Facts.{or-false}
 use Rattle.label.specs.Laws.{label-most}
 use Rattle.plan.specs.Plan.{emitFront, emitBody, emitEvent, emitEvents}
@@ -75,11 +76,6 @@ body-size false k bs h = h
 text-size : (k : ℕ) (v : Text) → length v ≤ 65536 → bodySize (text k v) ≤ 65536
 unfolding bodySize
 text-size k v h = h
-
-word-size : (k n : ℕ) → length (littleEndianBytes k n) ≡ k
-unfolding littleEndianBytes
-word-size zero n = refl
-word-size (suc k) n = ap suc (word-size k (n / 256))
 
 part-short : (pool : List ℕ) (p : Place) → p .start + p .size ≤ length pool → length pool ≤ 65536 → length (bytesAt pool p) ≤ 65536
 part-short pool p h l = simp (length-take, length-drop) (omega arith)
@@ -149,7 +145,7 @@ module _ {how : Pass} {pool rows out w out′ w′ : List ℕ} {i core : ℕ} (h
         → EmitsEvent (how .put) (how .inline) w w′ out out′ core s (unlabelled labelled (value k (littleEndianBytes 8 n))) → r ≡ nextStep i s
         → WritesValue how pool rows out w core out′ w′ r (fitLeaf k float64 labelled (restOf pool rows i))
     float-some {n} e b d q =
-        let l = word-size 8 n in
+        let l = little-length 8 n in
         value-writes h (value-there pool rows i floatRow e) (body-size labelled k (littleEndianBytes 8 n) (omega arith)) d q (float-is pool rows i k labelled e b)
 
     module _ (n : ℕ) where

@@ -2,7 +2,7 @@
 use mathlib.Core.Path.{_≡_, refl, sym, ap, _∙_}
 use mathlib.Core.Bool.{Bool, true, false, not}
 use mathlib.Core.List.{List}
-use Prim.Native.Nat.{ℕ, _/_, _%_, _^_}
+use Prim.Native.Nat.{ℕ, _/_, _%_}
 use native.Mathlib.Omega.{arith}
 use lib.Dec.{eqb}
 use lib.IntN.{ℤ, pos}
@@ -11,7 +11,7 @@ use mir.Syntax.{w64}
 use mir.Val.{SFits, toZ, ofZ}
 use mir.ValLaws.{toZ-ofZ}
 use Rattle.format.specs.Answer.{needAt, _>>=_}
-use Rattle.format.specs.Modes.{has, inlineEverything}
+use Rattle.format.specs.Modes.{has}
 use Rattle.format.specs.Label.{zigzag, unzigzag}
 use Rattle.format.specs.Read.{isLabel, takeLabel, ownLabel, noLabel, isNumbered}
 use Rattle.laws.specs.Facts.{by-lt}
@@ -57,10 +57,6 @@ unfolding noLabel
 bare-label l z q e = rw z (record { is = λ m. rw (e, q) })
 
 -- The modes, by their bits.
-
-pub mode-zero : (modes : ℕ) → eqb (modes % 2) 1 ≡ inlineEverything modes
-unfolding has
-mode-zero modes = let e : modes / 2 ^ 0 ≡ modes = omega arith in rw e
 
 not-one : (k : ℕ) → eqb (k % 2) 0 ≡ not (eqb (k % 2) 1)
 not-one k = by-lt (k % 2) 1

@@ -2,16 +2,17 @@
 use mathlib.Core.Path.{_≡_, refl, sym, ap, _∙_, subst, subst₂}
 use mathlib.Core.Bool.{Bool, true, false, cond}
 use mathlib.Core.List.{List, [], _∷_, _++_, append-assoc, append-nil}
-use Prim.Native.Nat.{ℕ, suc, _+_, _-_, _*_, _<_, _≤_}
-use native.Mathlib.Nat.{add-zero, add-suc, suc-add}
+use Prim.Native.Nat.{ℕ, _+_, _-_, _*_, _<_, _≤_}
+use native.Mathlib.Nat.{add-zero}
 use native.Mathlib.Omega.{arith}
 use lib.Dec.{ltb}
-use lib.ListN.{length, set, length-append}
+use lib.ListN.{length, length-append}
 use lib.Seq.{sets}
 use borrow.Author.Tests.{ltb-true, ltb-false, lt-ltb, le-ltb}
 use Rattle.format.specs.Answer.{Answer, ok, refuse, _>>=_, needAt, _>>_}
 use Rattle.format.specs.Row.{Place, Row, bare, placed, rowWords, words, rowWidth}
 use Rattle.format.specs.Read.{inMessage, State, takeRow, oneRow}
+use Rattle.laws.specs.Lists.{sets-append}
 use Rattle.label.specs.declared.cursor.Cursor.{Cursor}
 use Rattle.pieces.specs.Pieces.{Inside}
 use Rattle.leaf.specs.declared.Step.{Step}
@@ -22,10 +23,6 @@ use Rattle.leaf.specs.Push.{putOf, putIn}
 use Rattle.leaf.specs.State.{cursorOf, Ready, stateOf, Same, Holds, Does}
 
 -- ---- rows that stand one after another
-
-sets-append : (l : List ℕ) (i : ℕ) (a b : List ℕ) → sets (sets l i a) (i + length a) b ≡ sets l i (a ++ b)
-sets-append l i [] b = simp add-zero
-sets-append l i (x ∷ a) b = simp (add-suc, ← suc-add) (sets-append (set l i x) (suc i) a b)
 
 row-length : (r : Row Place) → length (rowWords r) ≡ rowWidth
 unfolding rowWords

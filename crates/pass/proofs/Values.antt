@@ -8,7 +8,6 @@ use native.Mathlib.Omega.{arith}
 use lib.Dec.{eqb}
 use lib.IntN.{ℤ, pos}
 use lib.ListN.{length}
-use borrow.Author.Tests.{lt-ltb}
 use Rattle.format.specs.Answer.{Answer, ok, refuse, _>>=_}
 use Rattle.format.specs.Label.{integer}
 use Rattle.format.specs.Modes.{noDeduplication}
@@ -17,6 +16,7 @@ use Rattle.format.specs.Table as tables
 use Rattle.format.specs.Row.{rowCount, arrayRow}
 use Rattle.format.specs.Read.{isNumbered, fieldCount}
 use Rattle.format.specs.Write.{Event, Rest, Fit, mark, fitEntries, fitField, fitLeaf, fitWire, fitNode, fitAll}
+use Rattle.label.specs.Laws.{integer-low}
 use Rattle.laws.specs.Facts.{by-lt}
 use Rattle.theory.specs.Says.{ok-says}
 use Rattle.theory.specs.Sent.{length-shown}
@@ -50,10 +50,6 @@ mark-holds {pool = pool} {rows} h t d q = row-holds h (d .writes pool rows t) q
 pub word-there : (pool rows : List ℕ) (i kind : ℕ) {n : ℕ} → valueIn kind (looked pool rows i) ≡ some n → i < rowCount rows
 unfolding valueIn
 word-there pool rows i kind e = found-there pool rows i (valueIn kind) (λ n j. refl) e
-
-integer-low : (n : ℕ) → n < 2 ^ 63 → integer n ≡ pos n
-unfolding integer
-integer-low n b = rw (lt-ltb n (2 ^ 63) b)
 
 leaf-back : (l : Leaf) → leafOf (leafIn l) ≡ l
 unfolding leafOf leafIn
@@ -160,7 +156,7 @@ module _ (how : Pass) (table pool rows out w : List ℕ) (i core node : ℕ) (ho
   -- a count that is no label has no rows enough for it
   any-label : (n : ℕ) (u : Node) → after n u (pos n) ≡ after n u (integer n)
   unfolding fitField _>>=_
-  any-label n u = by-lt n (2 ^ 63) (λ b. ap (λ l. after n u l) (sym (integer-low n b))) (λ b. high b (entriesOf n u (restOf pool rows (i + 1))) refl)
+  any-label n u = by-lt n (2 ^ 63) (λ b. ap (λ l. after n u l) (sym (integer-low b))) (λ b. high b (entriesOf n u (restOf pool rows (i + 1))) refl)
     where
       high : 2 ^ 63 ≤ n → (m : Answer (List Event × Rest)) → entriesOf n u (restOf pool rows (i + 1)) ≡ m → after n u (pos n) ≡ after n u (integer n)
       high b (ok y) e =

@@ -3,9 +3,8 @@ use mathlib.Core.Path.{_≡_, refl, sym, _∙_, ap}
 use mathlib.Core.Bool.{false, cond}
 use mathlib.Core.List.{List, [], _∷_, _++_}
 use mathlib.Core.Option.{Option, none, some}
-use Prim.Native.Nat.{ℕ, zero, suc, _+_, _-_, _≤_, _<_}
+use Prim.Native.Nat.{ℕ, suc, _+_, _-_, _≤_, _<_}
 use native.Mathlib.Omega.{arith}
-use native.Mathlib.Nat.{add-zero}
 use lib.Dec.{leb, eqb}
 use lib.IntN.{ℤ, pos, negsuc}
 use lib.ListN.{length, drop, getD, length-drop, drop-of-length-le}
@@ -14,6 +13,7 @@ use borrow.Author.Tests.{le-leb, lt-leb, eq-eqb, ne-eqb}
 use Rattle.format.specs.Answer.{Answer, ok, refuse, _>>=_, _>>_, needAt, orRefuse}
 use Rattle.format.specs.Label.{readLabel}
 use Rattle.format.specs.Read.{Reading, pieces, sizeOf, lastOf, blocksAndCore, split}
+use Rattle.laws.specs.Pieces.{pieces-skip}
 use Rattle.laws.specs.Facts.{by-lt}
 use Rattle.label.specs.Laws.{some-parts}
 
@@ -54,14 +54,6 @@ pub data Chain (m : List ℕ) : ℕ → ℕ → Type 0 where
   past : {at end : ℕ} (p : Reading) → Piece m at p → Chain m (p .end) end → Chain m at end
 
 -- What `pieces` does: bytes inside a piece are passed over, and a label is read.
-
-pieces-skip : (at k : ℕ) (bs : List ℕ) → k ≤ length bs → pieces at k bs ≡ pieces (at + k) 0 (drop k bs)
-unfolding pieces
-pieces-skip at zero bs h = rw add-zero
-pieces-skip at (suc k) [] h = absurd (omega arith)
-pieces-skip at (suc k) (b ∷ bs) h =
-    let e : suc at + k ≡ at + suc k = omega arith in
-    rw (← e) (pieces-skip (suc at) k bs (omega arith))
 
 module _ (at b : ℕ) (bs : List ℕ) where
   good-label : (rest : List ℕ) (n : ℕ) → readLabel (b ∷ bs) ≡ some (pos n, rest) → n ≤ length rest

@@ -3,15 +3,16 @@ use mathlib.Core.Path.{_≡_, sym, ap, _∙_, subst}
 use mathlib.Core.Bool.{true, false}
 use mathlib.Core.List.{List, []}
 use mathlib.Core.Option.{some}
-use Prim.Native.Nat.{ℕ, _/_, _%_, _<_, _≤_}
+use Prim.Native.Nat.{ℕ, _%_, _<_, _≤_}
 use native.Mathlib.Nat.{sub-zero}
 use native.Mathlib.Omega.{arith}
 use lib.Dec.{leb}
 use lib.ListN.{length}
-use borrow.Author.Tests.{eq-eqb, ne-eqb, le-leb, lt-leb}
+use borrow.Author.Tests.{le-leb, lt-leb}
 use Rattle.format.specs.Answer.{ok, refuse, _>>=_}
-use Rattle.format.specs.Modes.{has, inlineEverything}
+use Rattle.format.specs.Modes.{inlineEverything}
 use Rattle.format.specs.Read.{Reading, split, noLiterals}
+use Rattle.laws.specs.Modes.{inline-is, inline-not}
 use Rattle.label.specs.declared.cursor.Cursor.{Cursor}
 use Rattle.pieces.specs.declared.Parts.{Parts}
 use Rattle.pieces.specs.declared.Parts.the-variants.{Found, Bad}
@@ -30,16 +31,6 @@ sized-none m h = rw (lt-leb 1 (length m) h)
 pub sized-by : (m : List ℕ) → 1 ≤ length m → leb (length m) 65536 ≡ isSized m
 unfolding isSized
 sized-by m h = rw (le-leb 1 (length m) h)
-
-inline-is : (modes : ℕ) → modes % 2 ≡ 1 → inlineEverything modes ≡ true
-unfolding has
-inline-is modes e = eq-eqb (modes / 1 % 2) 1 (omega arith)
-
-inline-not : (modes : ℕ) → (modes % 2 ≡ 1 → ⊥) → inlineEverything modes ≡ false
-unfolding has
-inline-not modes z =
-    let h : modes / 1 % 2 ≡ 1 → ⊥ = λ e. z (omega arith) in
-    ne-eqb (modes / 1 % 2) 1 h
 
 start-inline : (m : List ℕ) (modes most : ℕ) → inlineEverything modes ≡ true → start m modes most ≡ ok (record { core = record { at = 1; end = length m }; blocks = []; waiting = []; literals = noLiterals; rows = most })
 unfolding start split _>>=_

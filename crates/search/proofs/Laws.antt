@@ -1,6 +1,6 @@
 -- Laws of equal texts, of parts of the pool, of the search among a key's literals, and of what a turn of it learns.
 use mathlib.Core.Path.{_≡_, refl, sym, ap, subst, _∙_}
-use mathlib.Core.Bool.{Bool, true, false, _&&_}
+use mathlib.Core.Bool.{Bool, true, false}
 use mathlib.Core.List.{List, [], _∷_, map}
 use mathlib.Core.Option.{Option, none, some, Option·some-injective}
 use Prim.Native.Nat.{ℕ, zero, suc, _+_, _*_, _/_, _%_, _<_, _≤_}
@@ -10,36 +10,21 @@ use native.Mathlib.Omega.{arith}
 use lib.Dec.{eqb}
 use lib.ListN.{length, getD, drop, length-map, drop-of-length-le}
 use lib.Seq.{ext-getD}
-use borrow.Author.Tests.{eq-eqb, ne-eqb, eqb-true}
+use borrow.Author.Tests.{eq-eqb, eqb-true}
 use Rattle.format.specs.Row.{Place, bytesAt, Text}
 use Rattle.format.specs.Read.{nth}
 use Rattle.format.specs.Write.{sameText, further, firstEqual}
+use Rattle.laws.specs.Texts.{same-eq, same-refl}
+use Rattle.laws.specs.Facts.{absurd-some, and-true}
 use Rattle.search.specs.Parts.{part-length, part-at}
-use Rattle.search.specs.Front.{Front, front, alike, both, common-is, front-short, alike-length, alike-agrees, unlike, front-met, front-passed}
+use Rattle.search.specs.Front.{Front, front, alike, common-is, front-short, alike-length, alike-agrees, unlike, front-met, front-passed}
 use Rattle.search.specs.Search.{placeOf, frontOf, textOf, textsOf, Stands, Keeps}
-
-clash : {P : Type 0} → _≡_ {A = Bool} false true → P
-clash e = let z : _≡_ {A = ℕ} 0 1 = cc in absurd (omega arith)
-
-same-is : (a b : Text) → sameText a b ≡ true → a ≡ b
-unfolding sameText
-same-is [] [] e = refl
-same-is [] (y ∷ ys) e = clash e
-same-is (x ∷ xs) [] e = clash e
-same-is (x ∷ xs) (y ∷ ys) e =
-    let p = both (eqb x y) (sameText xs ys) e in
-    rw (eqb-true x y (p .0), same-is xs ys (p .1))
-
-same-self : (a : Text) → sameText a a ≡ true
-unfolding sameText
-same-self [] = refl
-same-self (x ∷ xs) = simp (eq-eqb x x refl, same-self xs)
 
 unequal : (a b : Text) → (a ≡ b → ⊥) → sameText a b ≡ false
 unequal a b d = go (sameText a b) refl
   where
     go : (t : Bool) → sameText a b ≡ t → t ≡ false
-    go true e = absurd (d (same-is a b e))
+    go true e = absurd (d (same-eq a b e))
     go false e = refl
 
 -- Two parts of the pool.
@@ -48,7 +33,7 @@ module _ (pool : List ℕ) (p q : Place) (hp : p .start + p .size ≤ length poo
   parts-same s h =
       let e : bytesAt pool p ≡ bytesAt pool q = ext-getD 0 _ _ (part-length pool p hp ∙ sym s ∙ sym (part-length pool q hq))
       (λ i b. let l : i < p .size = subst (λ (n : ℕ). i < n) (part-length pool p hp) b in part-at pool p i l ∙ sym (h i l) ∙ sym (part-at pool q i (omega arith))) in
-      ap (λ (a : Text). sameText (bytesAt pool p) a) (sym e) ∙ same-self (bytesAt pool p)
+      ap (λ (a : Text). sameText (bytesAt pool p) a) (sym e) ∙ same-refl (bytesAt pool p)
 
   pub parts-differ : q .size ≡ p .size → (i : ℕ) → i < p .size → (getD pool (q .start + i) 0 ≡ getD pool (p .start + i) 0 → ⊥) → sameText (bytesAt pool p) (bytesAt pool q) ≡ false
   parts-differ s i h d = unequal _ _ (λ e. d (sym (part-at pool q i (omega arith)) ∙ ap (λ (a : Text). getD a i 0) (sym e) ∙ part-at pool p i h))
@@ -69,12 +54,9 @@ from-start v ts = go (firstEqual v ts)
     go none = refl
     go (some i) = rw zero-add
 
-missing : {P : Type 0} {p : Place} → _≡_ {A = Option Place} none (some p) → P
-missing e = let z : _≡_ {A = ℕ} 0 1 = cc in absurd (omega arith)
-
 text-next : (f : Place → Text) (ps : List Place) (j : ℕ) {p : Place} → nth ps j ≡ some p → drop j (map f ps) ≡ f p ∷ drop (suc j) (map f ps)
 unfolding nth
-text-next f [] j e = missing e
+text-next f [] j e = absurd-some e
 text-next f (q ∷ ps) zero {p} e = rw (Option·some-injective q p e)
 text-next f (q ∷ ps) (suc j) e = text-next f ps j e
 
@@ -113,8 +95,8 @@ module _ (first second size near pairs : ℕ) (small : size < 131072) where
     where
       go : (t : Bool) → test ≡ t → false ≡ t
       go true e =
-          let x = both (eqb (second % 131072) size) _ e in
-          let y = both (eqb (first / 131072) near) _ (x .1) in
+          let x = and-true (eqb (second % 131072) size) _ e in
+          let y = and-true (eqb (first / 131072) near) _ (x .1) in
           absurd (d (omega (arith, eqb-true (second % 131072) size (x .0), eqb-true (second / 131072) pairs (y .1))))
       go false e = refl
 

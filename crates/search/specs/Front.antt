@@ -10,6 +10,7 @@ use lib.Dec.{eqb}
 use lib.ListN.{length, getD, List·getD-append}
 use borrow.Author.Tests.{eq-eqb, ne-eqb, eqb-true}
 use Rattle.format.specs.Row.{Text}
+use Rattle.laws.specs.Facts.{and-true}
 
 -- How many first bytes two texts have in common.
 unfoldable pub common : Text → Text → ℕ
@@ -36,10 +37,6 @@ front v ts zero = record { near = 0; pairs = 0 }
 front v ts (suc j) = met v j (getD ts j []) (front v ts j) (front (getD ts j []) ts j)
 
 -- ---- laws
-
-pub both : (s t : Bool) → (s && t) ≡ true → (s ≡ true) × (t ≡ true)
-both true t e = (refl, e)
-both false t e = let z : _≡_ {A = ℕ} 0 1 = cc in absurd (omega arith)
 
 common-short : (a b : Text) → common a b ≤ length a
 unfolding common
@@ -109,15 +106,15 @@ module _ (ts : List Text) where
 
     pub alike-length : mayEqual ≡ true → length u ≡ length v
     unfolding alike
-    alike-length e = eqb-true _ _ (both _ _ e .0)
+    alike-length e = eqb-true _ _ (and-true _ _ e .0)
 
     alike-near : mayEqual ≡ true → front u ts j .near ≡ front v ts j .near
     unfolding alike
-    alike-near e = eqb-true _ _ (both _ _ (both (eqb (length u) (length v)) _ e .1) .0)
+    alike-near e = eqb-true _ _ (and-true _ _ (and-true (eqb (length u) (length v)) _ e .1) .0)
 
     alike-pairs : mayEqual ≡ true → front u ts j .pairs ≡ front v ts j .pairs
     unfolding alike
-    alike-pairs e = eqb-true _ _ (both (eqb (front u ts j .near) (front v ts j .near)) _ (both (eqb (length u) (length v)) _ e .1) .1)
+    alike-pairs e = eqb-true _ _ (and-true (eqb (front u ts j .near) (front v ts j .near)) _ (and-true (eqb (length u) (length v)) _ e .1) .1)
 
     pub alike-agrees : mayEqual ≡ true → (i : ℕ) → i < 2 * front v ts j .pairs → getD u i 0 ≡ getD v i 0
     alike-agrees e i h =

@@ -1,17 +1,17 @@
 -- Pass 14: what each step of the walk over the nodes has made, and left in the work.
 use mathlib.Core.Path.{_≡_, refl, sym, ap, _∙_, subst}
 use mathlib.Core.Bool.{Bool}
-use mathlib.Core.List.{List, [], _∷_, _++_}
+use mathlib.Core.List.{List, [], _∷_}
 use Prim.Native.Nat.{ℕ, zero, suc, _+_, _-_, _<_, _≤_}
-use native.Mathlib.Nat.{add-zero, add-suc, suc-add}
 use native.Mathlib.Numerals.{add-one, sub-one}
 use native.Mathlib.Omega.{arith}
 use lib.Dec.{eqb}
-use lib.ListN.{length, set}
+use lib.ListN.{set}
 use lib.Seq.{sets, set-comm}
 use borrow.Author.Tests.{eq-eqb, ne-eqb}
 use Rattle.format.specs.Answer.{Answer, ok, refuse, _>>=_, _>>_, needAt}
 use Rattle.format.specs.Table.{TableNode, RECORD, ARRAY, BLOCK, NULLABLE, omittable, deduplicate, Context, atRoot, inRecord, inArray, inNullable, inBlock, boolean, array, fields, block, Node, plain, nullable, Fields, noField, field, wireOf, leaf, shapeOf, stands, buildFields, below, build, tree}
+use Rattle.laws.specs.Lists.{sets-append}
 use Rattle.laws.specs.Tree.{size, belowWire, endsBelow, ends, endsFields}
 use Rattle.laws.specs.Built.{standing, built, plain-below, length-ends}
 use Rattle.table.specs.Passes.{stepOf, Stored, Makes, Planted}
@@ -43,10 +43,6 @@ unfolding _>>=_
 bind-refuse e f = rw e
 
 -- ---- stores
-
-sets-append : (l : List ℕ) (i : ℕ) (a b : List ℕ) → sets (sets l i a) (i + length a) b ≡ sets l i (a ++ b)
-sets-append l i [] b = simp add-zero
-sets-append l i (x ∷ a) b = simp (add-suc, ← suc-add) (sets-append (set l i x) (suc i) a b)
 
 set-sets : (l : List ℕ) (i j x : ℕ) (xs : List ℕ) → i < j → set (sets l j xs) i x ≡ sets (set l i x) j xs
 set-sets l i j x [] h = refl

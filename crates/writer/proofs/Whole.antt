@@ -58,10 +58,6 @@ module _ (rows pool : List ℕ) where
 pub whole-within : (rows pool : List ℕ) → areWhole rows pool ≡ true → Within rows pool
 whole-within rows pool e = let s = sizes rows pool e in record { few = s .0; small = s .1 }
 
-pub inline-is : (modes : ℕ) → eqb (modes % 2) 1 ≡ inlineEverything modes
-unfolding has
-inline-is modes = let e : modes / 1 % 2 ≡ modes % 2 = omega arith in rw e
-
 pub numbers-is : (modes : ℕ) → eqb (modes / 32 % 2) 0 ≡ not (noDeduplication modes)
 unfolding has
 numbers-is modes = by-lt (modes / 32 % 2) 1 (λ h. rw (eq-eqb (modes / 32 % 2) 0 (omega arith), ne-eqb (modes / 32 % 2) 1 (λ z. omega arith)))

@@ -2,10 +2,10 @@
 use native.Mathlib.Omega.{arith}
 use borrow.Author.Needs.{needs}
 use Rattle.emit.specs.Does.{puts-done}
-use Rattle.emit.proofs.Stores.{word-length}
 use Rattle.emit.proofs.Values.{place-within, value-nowhere, value-full, value-done}
 use Rattle.emit.proofs.value.word.Statement.{statement}
 use Rattle.emit.proofs.value.word.Tie as tie
+use Rattle.laws.specs.Lists.{little-length}
 
 place-requires : tie.Need-place-requires
 place-requires c κs = search needs
@@ -57,7 +57,7 @@ move-to-requires c κs =
     let put-word = c .before .before .before .before .before .before .put-word in
     let step = c .before .before .step in
     let args = c .before .before .before .before .before .before .before .before .before .before .before .before .before .before .before .args in
-    (pre .0, pre .2, omega (arith, place-within _ _ _ _ (place .ensures) (pre .1) (first .given .1), puts-done (put-word .ensures) (step .given .1) .1, word-length 8 (args .a)))
+    (pre .0, pre .2, omega (arith, place-within _ _ _ _ (place .ensures) (pre .1) (first .given .1), puts-done (put-word .ensures) (step .given .1) .1, little-length 8 (args .a)))
 
 same-length-4 : tie.Need-same-length-4
 same-length-4 c = search needs
