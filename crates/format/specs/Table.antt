@@ -147,6 +147,13 @@ unfoldable pub firstFrom : ℕ → ℕ → (ℕ → Bool) → ℕ → ℕ
 firstFrom i zero test otherwise = otherwise
 firstFrom i (suc more) test otherwise = cond (test i) i (firstFrom (suc i) more test otherwise)
 
+-- «One key has one kind, one length and one deduplicate flag»: a BLOCK of a key, and whether the BLOCKs i and j say the same.
+unfoldable pub isBlockOf : ℕ → TableNode → Bool
+isBlockOf key x = eqb (x .kind) BLOCK && eqb (x .argument) key
+
+unfoldable pub alike : (ℕ → TableNode) → ℕ → ℕ → Bool
+alike at i j = eqb (at (i + 1) .kind) (at (j + 1) .kind) && eqb (at (i + 1) .argument) (at (j + 1) .argument) && eqb (at i .flags / 2 % 2) (at j .flags / 2 % 2)
+
 -- A table of n nodes.
 module _ (n : ℕ) (at : ℕ → TableNode) where
   -- «For 14 the node at fault is the first at which the nodes so far break a rule»; «n if one is missing». `path` is how many nodes the path may have from here on.
@@ -190,22 +197,16 @@ module _ (n : ℕ) (at : ℕ → TableNode) where
     needAt (eqb i n) 14 i
     ok w
 
-  -- «One key has one kind, one length and one deduplicate flag», those of its first BLOCK.
-  unfoldable pub isBlockOf : ℕ → ℕ → Bool
-  isBlockOf key i = eqb (at i .kind) BLOCK && eqb (at i .argument) key
-
+  -- a key holds what its first BLOCK says
   abbrev pub firstBlock : ℕ → ℕ
-  firstBlock key = firstFrom 0 n (λ i. isBlockOf key i) n
+  firstBlock key = firstFrom 0 n (λ i. isBlockOf key (at i)) n
 
   unfoldable pub heldBy : ℕ → Held
   heldBy key = record { leaf = leafOf (at (firstBlock key + 1)); dedup = deduplicate (at (firstBlock key)) }
 
-  unfoldable pub alike : ℕ → ℕ → Bool
-  alike i j = eqb (at (i + 1) .kind) (at (j + 1) .kind) && eqb (at (i + 1) .argument) (at (j + 1) .argument) && eqb (at i .flags / 2 % 2) (at j .flags / 2 % 2)
-
   -- «15: a key disagrees with its first use»; the node at fault «is the BLOCK»
   unfoldable pub agrees : ℕ → Bool
-  agrees i = not (eqb (at i .kind) BLOCK) || alike (firstBlock (at i .argument)) i
+  agrees i = not (eqb (at i .kind) BLOCK) || alike at (firstBlock (at i .argument)) i
 
 -- «Order: 1, then 10 to 15, each over all nodes before the next.»
 unfoldable pub isMarked : List ℕ → Bool

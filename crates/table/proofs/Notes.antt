@@ -68,7 +68,7 @@ module _ (test : ℕ → Bool) where
 -- ---- all keys
 
 module _ (n : ℕ) (at : ℕ → TableNode) (i : ℕ) where
-  other-key : (key : ℕ) → (at i .argument ≡ key → ⊥) → isBlockOf n at key i ≡ false
+  other-key : (key : ℕ) → (at i .argument ≡ key → ⊥) → isBlockOf key (at i) ≡ false
   unfolding isBlockOf
   other-key key z = go (eqb (at i .kind) BLOCK)
     where
@@ -76,11 +76,11 @@ module _ (n : ℕ) (at : ℕ → TableNode) (i : ℕ) where
       go true = ne-eqb _ _ z
       go false = refl
 
-  own-key : (key : ℕ) → at i .kind ≡ BLOCK → key ≡ at i .argument → isBlockOf n at key i ≡ true
+  own-key : (key : ℕ) → at i .kind ≡ BLOCK → key ≡ at i .argument → isBlockOf key (at i) ≡ true
   unfolding isBlockOf
   own-key key k e = simp (k, eq-eqb _ _ (sym e))
 
-  no-key : (key : ℕ) → (at i .kind ≡ BLOCK → ⊥) → isBlockOf n at key i ≡ false
+  no-key : (key : ℕ) → (at i .kind ≡ BLOCK → ⊥) → isBlockOf key (at i) ≡ false
   unfolding isBlockOf
   no-key key z = simp (ne-eqb _ _ z)
 
@@ -88,22 +88,22 @@ module _ (n : ℕ) (at : ℕ → TableNode) (i : ℕ) where
   unfolding agrees
   agrees-none z = simp (ne-eqb _ _ z)
 
-  pub agrees-block : (f : ℕ) → at i .kind ≡ BLOCK → f ≡ firstBlock n at (at i .argument) → alike 0 at f i ≡ agrees n at i
+  pub agrees-block : (f : ℕ) → at i .kind ≡ BLOCK → f ≡ firstBlock n at (at i .argument) → alike at f i ≡ agrees n at i
   unfolding agrees alike
   agrees-block f k e = simp (k, e)
 
-  module _ (work : List ℕ) (h : Notes n at i work) where
-    pub notes-more : (at i .kind ≡ BLOCK → ⊥) → Notes n at (i + 1) work
+  module _ (work : List ℕ) (h : Notes at i work) where
+    pub notes-more : (at i .kind ≡ BLOCK → ⊥) → Notes at (i + 1) work
     notes-more z = record { note = λ key l. note-more _ i _ (h .note key l) (no-key key z) }
 
     module _ (key : ℕ) (l : key < 32) (k : at i .kind ≡ BLOCK) (e : key ≡ at i .argument) where
       pub first-block : i < n → firstOf (noteIn work key) i ≡ firstBlock n at (at i .argument)
-      first-block m = sym (first-is (λ j. isBlockOf n at key j) n _ (note-first _ i _ (h .note key l) (own-key key k e)) (omega (arith, first-within _ i _ (h .note key l)))) ∙ ap (firstBlock n at) e
+      first-block m = sym (first-is (λ j. isBlockOf key (at j)) n _ (note-first _ i _ (h .note key l) (own-key key k e)) (omega (arith, first-within _ i _ (h .note key l)))) ∙ ap (firstBlock n at) e
 
-      pub notes-noted : 1056 ≤ length work → Notes n at (i + 1) (set work (1024 + key) (firstOf (noteIn work key) i + 1))
+      pub notes-noted : 1056 ≤ length work → Notes at (i + 1) (set work (1024 + key) (firstOf (noteIn work key) i + 1))
       notes-noted s = record { note = λ key′ l′. go key′ l′ (eqb key′ key) refl }
         where
-          go : (key′ : ℕ) → key′ < 32 → (b : Bool) → eqb key′ key ≡ b → Note (λ j. isBlockOf n at key′ j) (i + 1) (noteIn (set work (1024 + key) (firstOf (noteIn work key) i + 1)) key′)
+          go : (key′ : ℕ) → key′ < 32 → (b : Bool) → eqb key′ key ≡ b → Note (λ j. isBlockOf key′ (at j)) (i + 1) (noteIn (set work (1024 + key) (firstOf (noteIn work key) i + 1)) key′)
           go key′ l′ true q = rw (eqb-true key′ key q, getD-set-same work (1024 + key) (firstOf (noteIn work key) i + 1) 0 (omega arith)) (note-noted _ i _ (h .note key l) (own-key key k e))
           go key′ l′ false q =
               let z : key′ ≡ key → ⊥ = eqb-false key′ key q in
@@ -123,8 +123,8 @@ beside-note l key x h = record { size = length-set l (1024 + key) x; low = λ k 
 
 -- ---- node i, a BLOCK, against the first of its key
 
-pub noted : (n : ℕ) (at : ℕ → TableNode) (i : ℕ) (work work′ : List ℕ) (key f : ℕ) → Notes n at i work → i < n → 1056 ≤ length work → key < 32 → at i .kind ≡ BLOCK → key ≡ at i .argument
-    → f ≡ firstOf (noteIn work key) i → work′ ≡ set work (1024 + key) (f + 1) → (alike 0 at f i ≡ agrees n at i) × (Notes n at (i + 1) work′ × Beside work work′)
+pub noted : (n : ℕ) (at : ℕ → TableNode) (i : ℕ) (work work′ : List ℕ) (key f : ℕ) → Notes at i work → i < n → 1056 ≤ length work → key < 32 → at i .kind ≡ BLOCK → key ≡ at i .argument
+    → f ≡ firstOf (noteIn work key) i → work′ ≡ set work (1024 + key) (f + 1) → (alike at f i ≡ agrees n at i) × (Notes at (i + 1) work′ × Beside work work′)
 noted n at i work work′ key f h m s l k e q w = (
   agrees-block n at i f k (q ∙ first-block n at i work h key l k e m),
   (rw (w, q) (notes-noted n at i work h key l k e s), rw w (beside-note work key (f + 1) l)),
@@ -158,5 +158,5 @@ module _ (xs ys : List ℕ) (s : 1056 ≤ length xs) (e : ys ≡ zeros (length (
       let b : key < length ys = omega (arith, ap length e, length-replicate {A = ℕ} (length (take 32 (drop 1024 xs))) 0, part) in
       ap (λ (k : ℕ). getD cleared k 0) a ∙ getD-append-add (take 1024 xs) _ key 0 ∙ List·getD-append ys _ 0 key b ∙ rw (e, part) (getD-replicate 32 key 0 0 h)
 
-  pub notes-cleared : (n : ℕ) (at : ℕ → TableNode) → Notes n at 0 cleared
-  notes-cleared n at = record { note = λ key l. rw (note-cleared key l) (record { none = λ z k h. absurd (omega arith); some = λ f e. absurd (omega arith); within = omega arith }) }
+  pub notes-cleared : (at : ℕ → TableNode) → Notes at 0 cleared
+  notes-cleared at = record { note = λ key l. rw (note-cleared key l) (record { none = λ z k h. absurd (omega arith); some = λ f e. absurd (omega arith); within = omega arith }) }

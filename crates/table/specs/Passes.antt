@@ -100,8 +100,8 @@ pub record Note (test : ℕ → Bool) (i note : ℕ) : Type 0 where
 abbrev pub noteIn : List ℕ → ℕ → ℕ
 noteIn work key = getD work (1024 + key) 0
 
-pub record Notes (n : ℕ) (at : ℕ → TableNode) (i : ℕ) (work : List ℕ) : Type 0 where
-  pub note : (key : ℕ) → key < 32 → Note (λ k. isBlockOf n at key k) i (noteIn work key)
+pub record Notes (at : ℕ → TableNode) (i : ℕ) (work : List ℕ) : Type 0 where
+  pub note : (key : ℕ) → key < 32 → Note (λ k. isBlockOf key (at k)) i (noteIn work key)
 
 unfoldable pub firstOf : ℕ → ℕ → ℕ
 firstOf note i = cond (eqb note 0) i (note - 1)

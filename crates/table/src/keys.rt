@@ -13,10 +13,10 @@ const NOTES: usize = 1024;
 
 const NOTES_END: usize = 1056;
 
-// Do the BLOCKs i and j say the same of their key? (`alike` is of any number of nodes.)
+// Do the BLOCKs i and j say the same of their key?
 fn alike(table: &[u8], i: usize, j: usize) -> bool
     requires { ⌜ (15 + 4 * i ≤ length (now table)) × (15 + 4 * j ≤ length (now table)) ⌝ }
-    ensures { λ r. ⌜ r ≡ alike 0 (nodeAt (now (table .entry))) i j ⌝ }
+    ensures { λ r. ⌜ r ≡ alike (nodeAt (now (table .entry))) i j ⌝ }
 {
     if nodes::kind_at(table, i + 1) != nodes::kind_at(table, j + 1) {
         return false;
@@ -51,9 +51,9 @@ fn first_use(work: &mut [u32], key: usize, i: usize) -> usize
 
 // Does node i agree with the first use of its key?
 fn agree(table: &[u8], work: &mut [u32], n: usize, i: usize) -> bool
-    requires { ⌜ Whole (now table) n × (i < n) × (1056 ≤ length (now work)) × Notes n (nodeAt (now table)) i (now work) ⌝ }
+    requires { ⌜ Whole (now table) n × (i < n) × (1056 ≤ length (now work)) × Notes (nodeAt (now table)) i (now work) ⌝ }
     ensures { λ r. ⌜ r ≡ agrees n (nodeAt (now (table .entry))) i ⌝ }
-    ensures { λ _. ⌜ Notes n (nodeAt (now (table .entry))) (i + 1) (now (work .exit)) ⌝ }
+    ensures { λ _. ⌜ Notes (nodeAt (now (table .entry))) (i + 1) (now (work .exit)) ⌝ }
     ensures { λ _. ⌜ Beside (now (work .entry)) (now (work .exit)) ⌝ }
 {
     if nodes::kind_at(table, i) != nodes::BLOCK {
@@ -64,7 +64,7 @@ fn agree(table: &[u8], work: &mut [u32], n: usize, i: usize) -> bool
 }
 
 fn agree_all(table: &[u8], work: &mut [u32], n: usize) -> Step
-    requires { ⌜ Whole (now table) n × (1056 ≤ length (now work)) × Notes n (nodeAt (now table)) 0 (now work) ⌝ }
+    requires { ⌜ Whole (now table) n × (1056 ≤ length (now work)) × Notes (nodeAt (now table)) 0 (now work) ⌝ }
     ensures { λ r. ⌜ r ≡ stepOf (λ u. n) (each n (agrees n (nodeAt (now (table .entry)))) 15) ⌝ }
     ensures { λ _. ⌜ Beside (now (work .entry)) (now (work .exit)) ⌝ }
 {

@@ -14,7 +14,7 @@ use Rattle.table.proofs.keys.agree_all.Statement.{statement}
 use Rattle.table.proofs.keys.agree_all.Tie as tie
 
 abbrev Inv-loop : tie.InvT-loop
-Inv-loop table work₀ n i₀ work i = (i ≤ n) × (length work ≡ length work₀) × Passed (λ j. agrees n (nodeAt table) j) 15 i × Notes n (nodeAt table) i work × Beside work₀ work
+Inv-loop table work₀ n i₀ work i = (i ≤ n) × (length work ≡ length work₀) × Passed (λ j. agrees n (nodeAt table) j) 15 i × Notes (nodeAt table) i work × Beside work₀ work
 
 abbrev μ-loop : tie.MeasureT-loop
 μ-loop table work₀ n i₀ work i = n - i

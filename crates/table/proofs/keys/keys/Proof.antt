@@ -26,7 +26,7 @@ agree-all-requires c κs =
     let a = c7 .args in (
       c7 .pre .0,
       omega (arith, c7 .pre .1, cleared-beside (now (a .work)) _ (c7 .pre .1) (c3 .zero-words .ensures) .size),
-      notes-cleared (now (a .work)) _ (c7 .pre .1) (c3 .zero-words .ensures) (a .n) (nodeAt (now (a .table))),
+      notes-cleared (now (a .work)) _ (c7 .pre .1) (c3 .zero-words .ensures) (nodeAt (now (a .table))),
     )
 
 same-length : tie.Need-same-length
