@@ -8,9 +8,10 @@ use native.Mathlib.Omega.{arith}
 use lib.ListN.{length, getD, take, drop-of-length-le}
 use lib.Seq.{slice, slice-empty, slice-cons, length-slice, take-suc, drop-append-le, length-take-le}
 use Rattle.format.specs.Label.{continued, readSeptets, within64, readVarint}
+use Rattle.laws.specs.Facts.{some-pair, absurd-some}
 use Rattle.label.specs.declared.cursor.Varint.the-variants.{Number, Broken}
 use Rattle.label.specs.Cursor.{answer, cursor, upTo}
-use Rattle.label.specs.Laws.{read-nil, read-small, read-big, within-some, within-over, continued-some, continued-parts, some-parts, absurd-some}
+use Rattle.label.specs.Laws.{read-nil, read-small, read-big, within-some, within-over, continued-some, continued-parts}
 
 -- what is read is none, or over 64 bits
 abbrev Over : Option (ℕ × List ℕ) → Type 0
@@ -49,7 +50,7 @@ long-run o (x ∷ xs) n z rest e =
 over-next : (b acc : ℕ) (rest : List ℕ) → (0 < acc → 2 ^ 64 ≤ b % 128 + 128 * acc) → Over (continued b (some (acc, rest)))
 over-next b acc rest f z r e =
     let c = continued-parts b (some (acc, rest)) z r e in
-    let q : acc ≡ c .h = some-parts (c .behind) .0 in
+    let q : acc ≡ c .h = some-pair (c .behind) .0 in
     omega (arith, c .is, c .above, f (omega (arith, c .above)))
 
 -- The same from a place in s.

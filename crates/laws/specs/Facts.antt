@@ -4,8 +4,8 @@ use mathlib.Core.Bool.{Bool, true, false, cond, _&&_, _||_}
 use mathlib.Core.Option.{Option, none, some}
 use Prim.Native.Nat.{ℕ, _<_, _≤_}
 use native.Mathlib.Omega.{arith}
-use lib.Dec.{ltb}
-use borrow.Author.Tests.{ltb-true, ltb-false}
+use lib.Dec.{ltb, eqb}
+use borrow.Author.Tests.{ltb-true, ltb-false, eqb-true, eqb-false}
 use Rattle.format.specs.Answer.{Answer, ok, refuse, _>>=_, _>>_, needAt, orRefuse}
 
 -- What never holds.
@@ -27,6 +27,9 @@ by-bool false f g = g refl
 
 pub by-lt {ℓ} : {P : Type ℓ} (m n : ℕ) → (m < n → P) → (n ≤ m → P) → P
 by-lt m n f g = by-bool (ltb m n) (λ e. f (ltb-true m n e)) (λ e. g (ltb-false m n e))
+
+pub by-eq {ℓ} : {P : Type ℓ} (m n : ℕ) → (m ≡ n → P) → ((m ≡ n → ⊥) → P) → P
+by-eq m n f g = by-bool (eqb m n) (λ e. f (eqb-true m n e)) (λ e. g (eqb-false m n e))
 
 pub by-option {ℓ} : {A : Type 0} {P : Type ℓ} (o : Option A) → ((a : A) → o ≡ some a → P) → (o ≡ none → P) → P
 by-option none f g = g refl
@@ -97,10 +100,8 @@ ok-triple {A} {B} {C} {a} {a₁} {b} {b₁} {c} {c₁} e =
 pub some-same : {A : Type 0} {a b : A} → some a ≡ some b → a ≡ b
 some-same e = cc
 
-pub some-pair : {A B : Type 0} {a c : A} {b d : B} → _≡_ {A = Option (A × B)} (some (a, b)) (some (c, d)) → (a ≡ c) × (b ≡ d)
-some-pair {A} {B} {a} {c} {b} {d} e =
-    let q : _≡_ {A = A × B} (a, b) (c, d) = some-same e in
-    (ap (λ p. p .0) q, ap (λ p. p .1) q)
+pub some-pair : {A B : Type 0} {p q : A × B} → _≡_ {A = Option (A × B)} (some p) (some q) → (p .0 ≡ q .0) × (p .1 ≡ q .1)
+some-pair {p = p} {q} e = let h : p ≡ q = some-same e in (ap (λ x. x .0) h, ap (λ x. x .1) h)
 
 -- How it computes.
 

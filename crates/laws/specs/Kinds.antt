@@ -20,7 +20,7 @@ kind-most (array w) = omega arith
 kind-most (fields ws) = omega arith
 kind-most (block key) = omega arith
 
-wire-some : (v : Wire) → 1 ≤ sizeWire v
+pub wire-some : (v : Wire) → 1 ≤ sizeWire v
 unfolding sizeWire
 wire-some boolean = omega arith
 wire-some (array w) = omega arith

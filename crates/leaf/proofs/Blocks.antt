@@ -5,12 +5,11 @@ use mathlib.Core.List.{List, [], _∷_, _++_}
 use mathlib.Core.Option.{Option, none, some, Option·some-injective}
 use Prim.Native.Nat.{ℕ, _-_, _≤_, _<_, _^_}
 use native.Mathlib.Omega.{arith}
-use lib.Dec.{eqb}
 use lib.IntN.{ℤ}
 use lib.ListN.{length}
-use borrow.Author.Tests.{eqb-true, eqb-false}
 use Rattle.format.specs.Answer.{Answer, ok, refuse, _>>=_}
 use Rattle.format.specs.Read.{Reading, inMessage, State, atKey}
+use Rattle.laws.specs.Facts.{by-eq}
 use Rattle.label.specs.declared.cursor.Cursor.{Cursor}
 use Rattle.pieces.specs.declared.Given.{Given}
 use Rattle.pieces.specs.declared.Given.the-variants.{Block, Nothing}
@@ -24,13 +23,6 @@ use Rattle.leaf.specs.Does.{same-then}
 use Rattle.leaf.specs.Takes.{took-along, took-refuses, took-ends, took-is, took-ready, then-takes, then-takes-not}
 use Rattle.leaf.specs.Touch.{given, touch, putBlock, touch-has, at-key}
 use Rattle.leaf.specs.Contracts.{givenOf, GivenIn, Opened}
-
-by-key : {P : Type 0} (j k : ℕ) → (j ≡ k → P) → ((j ≡ k → ⊥) → P) → P
-by-key {P} j k f g = go (eqb j k) refl
-  where
-    go : (b : Bool) → eqb j k ≡ b → P
-    go true e = f (eqb-true j k e)
-    go false e = g (eqb-false j k e)
 
 pub same-words : {w w′ : List ℕ} {f : Store → Store} → Changes w w′ f → Same w w′
 same-words d = record { at = d .outside }
@@ -47,7 +39,7 @@ module _ {w w′ : List ℕ} (k : ℕ) (p : Reading) (q : Cursor) (e : lookup k 
       ap (λ s. s .slots) (d .store) ∙ move-put k (q .at) (storeOf w .slots) e ∙ ap (λ r. put k r (storeOf w .slots)) y
 
   slot-moved : (m : List ℕ) → Ready m w → Inside m q → (j : ℕ) (r : Reading) → lookup j (storeOf w′ .slots) ≡ some r → Inside m (cursorOf r)
-  slot-moved m g i j r h = by-key j k
+  slot-moved m g i j r h = by-eq j k
       (λ y. subst (λ x. Inside m (cursorOf x)) (some-is (lookup-put k (storeOf w .slots) (readingOf q) e) (sym (ap (λ l. lookup k l) moved) ∙ rw y at h)) i)
       (λ n. g .slots j r (sym (lookup-change-other k j n (λ y. readingOf q) (storeOf w .slots)) ∙ sym (ap (λ l. lookup j l) moved) ∙ h))
 
@@ -120,7 +112,7 @@ module _ {m w : List ℕ} (k : ℕ) (e : lookup k (storeOf w .slots) ≡ none) w
     both = d₁ .store ∙ rw (d .store)
 
     slot-given : (j : ℕ) (r : Reading) → lookup j (storeOf w₂ .slots) ≡ some r → Inside m (cursorOf r)
-    slot-given j r z = by-key j k
+    slot-given j r z = by-eq j k
         (λ y. subst (λ x. Inside m (cursorOf x)) (some-is (lookup-append k (storeOf w .slots) (readingOf p) e) (rw (y, both) at z)) i)
         (λ y. g .slots j r (sym (lookup-append-other k j y (storeOf w .slots) (readingOf p)) ∙ rw both at z))
 

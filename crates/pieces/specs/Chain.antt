@@ -14,8 +14,7 @@ use Rattle.format.specs.Answer.{Answer, ok, refuse, _>>=_, _>>_, needAt, orRefu
 use Rattle.format.specs.Label.{readLabel}
 use Rattle.format.specs.Read.{Reading, pieces, sizeOf, lastOf, blocksAndCore, split}
 use Rattle.laws.specs.Pieces.{pieces-skip}
-use Rattle.laws.specs.Facts.{by-lt}
-use Rattle.label.specs.Laws.{some-parts}
+use Rattle.laws.specs.Facts.{by-lt, some-pair}
 
 -- the pieces of m from the label at `at` on
 abbrev pub piecesFrom : List ℕ → ℕ → Answer (List Reading)
@@ -107,7 +106,7 @@ reading-is h k = rw (h, k)
 
 pub piece-unique : {m : List ℕ} {at : ℕ} {p q : Reading} → Piece m at p → Piece m at q → p ≡ q
 piece-unique {m} {at} {p} {q} x y =
-    let (n, rest) = some-parts (sym (x .reads) ∙ y .reads) in
+    let (n, rest) = some-pair (sym (x .reads) ∙ y .reads) in
     let sizes : x .size ≡ y .size = cc in
     let lengths : length m - p .at ≡ length m - q .at = sym (length-drop (p .at) m) ∙ ap length rest ∙ length-drop (q .at) m in
     reading-is (omega arith) (omega arith)
@@ -117,11 +116,11 @@ piece-not x (broken e) =
     let z : _≡_ {A = ℕ} 0 1 = cc in
     omega arith
 piece-not x (negative e) =
-    let (n, rest) = some-parts (sym e ∙ x .reads) in
+    let (n, rest) = some-pair (sym e ∙ x .reads) in
     let z : _≡_ {A = ℕ} 0 1 = cc in
     omega arith
 piece-not {m} {at} {p} x (long {n} {rest} e l) =
-    let (k, r) = some-parts (sym e ∙ x .reads) in
+    let (k, r) = some-pair (sym e ∙ x .reads) in
     let sizes : n ≡ x .size = cc in
     omega (arith, ap length r, length-drop (p .at) m)
 

@@ -1,6 +1,6 @@
 -- Laws of equal texts, of parts of the pool, of the search among a key's literals, and of what a turn of it learns.
 use mathlib.Core.Path.{_≡_, refl, sym, ap, subst, _∙_}
-use mathlib.Core.Bool.{Bool, true, false}
+use mathlib.Core.Bool.{Bool, true, false, _&&_}
 use mathlib.Core.List.{List, [], _∷_, map}
 use mathlib.Core.Option.{Option, none, some, Option·some-injective}
 use Prim.Native.Nat.{ℕ, zero, suc, _+_, _*_, _/_, _%_, _<_, _≤_}
@@ -139,7 +139,7 @@ module _ {pool : List ℕ} {p : Place} {xs : List Place} {j near pairs : ℕ} {x
   text-there = go xs j (t .there)
     where
       go : (xs : List Place) (j : ℕ) → nth xs j ≡ some x → getD (textsOf pool xs) j [] ≡ u
-      go [] j e = missing e
+      go [] j e = absurd-some e
       go (y ∷ ys) zero e = rw (Option·some-injective y x e)
       go (y ∷ ys) (suc j) e = go ys j e
 

@@ -9,10 +9,11 @@ use lib.ListN.{length, getD, set, length-set}
 use borrow.Author.Tests.{ne-eqb}
 use Rattle.format.specs.Row.{Place}
 use Rattle.format.specs.Read.{nth, total}
+use Rattle.laws.specs.Facts.{by-eq}
 use Rattle.store.specs.Lists.{upto, upto-length, upto-getD, upto-nth, upto-ext, upto-snoc, upto-addAt, upto-total, sum-ext, sum-ge, sum-at, sum-pages}
 use Rattle.store.specs.Store.{added}
 use Rattle.store.specs.Words.{word, taken, allOf, countOf, pages, pageOf, cellAt, placeAt, literalOf, literalsOf, storeOf, GoodLiterals, Good, Changes, nextPage, Written}
-use Rattle.store.proofs.Stores.{by-eq, skip, hit, reading-eq, place-eq, store-eq, slots-below}
+use Rattle.store.proofs.Stores.{skip, hit, reading-eq, place-eq, store-eq, slots-below}
 
 literals-length : (w : List ℕ) (k : ℕ) → length (literalsOf w k) ≡ countOf w k
 unfolding literalsOf

@@ -8,10 +8,11 @@ use native.Mathlib.Numerals.{add-one}
 use lib.ListN.{length, set, length-set}
 use borrow.Author.Tests.{eq-eqb, ne-eqb}
 use Rattle.format.specs.Read.{Reading, nth}
+use Rattle.laws.specs.Facts.{by-eq}
 use Rattle.store.specs.Lists.{upto, upto-length, upto-nth, upto-ext, upto-snoc, sum-at, sum-room}
 use Rattle.store.specs.Store.{lookup, change, moveTo, opened, advanced, rested}
 use Rattle.store.specs.Words.{word, keyOf, readingOf, indexOf, slotCount, slotOf, slotsOf, storeOf, GoodSlots, Good, Changes}
-use Rattle.store.proofs.Stores.{by-eq, skip, hit, reading-eq, store-eq, slot-most, good-slots-kept, slots-below, literals-kept, good-literals-kept}
+use Rattle.store.proofs.Stores.{skip, hit, reading-eq, store-eq, slot-most, good-slots-kept, slots-below, literals-kept, good-literals-kept}
 
 -- ---- what stands under a key in a list made by a rule
 

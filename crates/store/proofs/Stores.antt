@@ -3,22 +3,15 @@ use mathlib.Core.Path.{_≡_, refl, sym, ap, _∙_}
 use mathlib.Core.List.{List}
 use Prim.Native.Nat.{ℕ, _+_, _*_, _/_, _<_, _≤_, min}
 use native.Mathlib.Omega.{arith}
-use native.Mathlib.Decide.{ℕ-discrete}
 use lib.ListN.{length, set, length-set}
 use lib.Seq.{getD-set-same, getD-set-other}
 use Rattle.format.specs.Row.{Place}
 use Rattle.format.specs.Read.{Reading}
+use Rattle.laws.specs.Facts.{by-eq}
 use Rattle.store.specs.Lists.{upto, upto-ext, sum-ext, sum-most}
 use Rattle.store.specs.Store.{Store, empty, unnumbered}
 use Rattle.store.specs.Words.{word, keyOf, indexOf, slotCount, slotOf, slotsOf, taken, allOf, countOf, pages, pageOf, cellAt, literalOf, literalsOf, storeOf, GoodSlots, GoodLiterals, Good, Changes}
 use Rattle.store.specs.Laws.{good-none, literals-none, good-empty, store-empty}
-
-pub by-eq : {P : Type 0} (a b : ℕ) → (a ≡ b → P) → ((a ≡ b → ⊥) → P) → P
-by-eq {P} a b f g = go (ℕ-discrete a b)
-  where
-    go : Dec (a ≡ b) → P
-    go (yes e) = f e
-    go (no o) = g o
 
 pub skip : (w : List ℕ) (i x a : ℕ) → (a ≡ i → ⊥) → word (set w i x) a ≡ word w a
 skip w i x a h = getD-set-other w i a x 0 h

@@ -9,20 +9,13 @@ use lib.ListN.{length}
 use Rattle.format.specs.Table.{u16, nodeAt, omittable, BOOLEAN, RECORD, ARRAY, BLOCK, NULLABLE, Wire, boolean, array, fields, block, Node, plain, nullable, Fields, field, wireOf}
 use Rattle.format.specs.Read.{fieldCount}
 use Rattle.laws.specs.Tree.{sizeWire, size, depthWire, depth, depthFields, Has, HasWire}
-use Rattle.laws.specs.Kinds.{kindOf, kindOfNode, wire-top, node-top, by-record, by-array, by-field, has-kept}
+use Rattle.laws.specs.Kinds.{kindOf, kindOfNode, wire-top, node-top, by-record, by-array, by-field, has-kept, wire-some}
 use Rattle.store.specs.Words.{word}
 use Rattle.typed.specs.Typed.{Sized, heldIn, IsNode, IsWire, AreFields, FitsNode, FitsWire, FitFields, isNullable, below, pathTo}
 
-size-some : (v : Wire) → 1 ≤ sizeWire v
-unfolding sizeWire
-size-some boolean = omega arith
-size-some (array w) = omega arith
-size-some (fields ws) = omega arith
-size-some (block key) = omega arith
-
 pub node-some : (v : Node) → 1 ≤ size v
 unfolding size
-node-some (plain j w) = size-some w
+node-some (plain j w) = wire-some w
 node-some (nullable j w) = omega arith
 
 pub depth-some : (v : Wire) → 1 ≤ depthWire v
@@ -80,7 +73,7 @@ module _ (table work : List ℕ) where
       pub wire-inside : (1 ≤ left) × (i < 1024) × (11 + 4 * i ≤ length table)
       wire-inside =
           let t : i + sizeWire (f .type) ≤ u16 table 5 = wire-top _ _ _ _ i (f .type) (f .is) .within in
-          let s = size-some (f .type) in
+          let s = wire-some (f .type) in
           let e = depth-some (f .type) in
           (omega (arith, f .deep), omega (arith, whole .most), omega (arith, whole .whole))
 
