@@ -84,28 +84,25 @@ module _ (pool : List ℕ) (v : Text) (ps : List Place) (j : ℕ) where
 
 -- ---- one turn
 
--- the two words against a size and a front
-module _ (first second size near pairs : ℕ) (small : size < 131072) where
+-- the two words against what is known of the text
+module _ (first second near word : ℕ) where
   abbrev test : Bool
-  test = alike size (record { near = near; pairs = pairs }) (second % 131072) (record { near = first / 131072; pairs = second / 131072 })
+  test = alike (word % 131072) (record { near = near; pairs = word / 131072 }) (second % 131072) (record { near = first / 131072; pairs = second / 131072 })
 
-  pub word-other : (second ≡ size + 131072 * pairs → ⊥) → false ≡ test
+  pub word-other : (second ≡ word → ⊥) → false ≡ test
   unfolding alike
   word-other d = go test refl
     where
       go : (t : Bool) → test ≡ t → false ≡ t
       go true e =
-          let x = and-true (eqb (second % 131072) size) _ e in
+          let x = and-true (eqb (second % 131072) (word % 131072)) _ e in
           let y = and-true (eqb (first / 131072) near) _ (x .1) in
-          absurd (d (omega (arith, eqb-true (second % 131072) size (x .0), eqb-true (second / 131072) pairs (y .1))))
+          absurd (d (omega (arith, eqb-true (second % 131072) (word % 131072) (x .0), eqb-true (second / 131072) (word / 131072) (y .1))))
       go false e = refl
 
-  pub word-same : second ≡ size + 131072 * pairs → eqb (first / 131072) near ≡ test
+  pub word-same : second ≡ word → eqb (first / 131072) near ≡ test
   unfolding alike
-  word-same e =
-      let m : second % 131072 ≡ size = omega arith in
-      let d : second / 131072 ≡ pairs = omega arith in
-      rw (eq-eqb _ _ m, eq-eqb _ _ d) (go (eqb (first / 131072) near))
+  word-same e = rw (e, eq-eqb (word % 131072) (word % 131072) refl, eq-eqb (word / 131072) (word / 131072) refl) (go (eqb (first / 131072) near))
     where
       go : (t : Bool) → t ≡ (t && true)
       go true = refl
@@ -179,12 +176,14 @@ module _ {pool : List ℕ} {p : Place} {xs : List Place} {j near pairs : ℕ} {x
     pub turn-passed : front v ts (suc j) ≡ record { near = near; pairs = pairs }
     turn-passed = front-passed ts v u j text-there (is-asked ∙ no) ∙ t .learnt
 
+pub front-begins : (v : Text) (ts : List Text) {size : ℕ} → size < 131072 → front v ts 0 ≡ record { near = 0; pairs = size / 131072 }
+unfolding front
+front-begins v ts {size} h = let e : 0 ≡ size / 131072 = omega arith in ap (λ (n : ℕ). record { near = 0; pairs = n }) e
+
 -- the words to keep the text by
-pub keeps : (pool : List ℕ) (ts : List Text) (p : Place) {near pairs : ℕ} → p .start < 131072 → p .size < 131072 → front (bytesAt pool p) ts (length ts) ≡ record { near = near; pairs = pairs }
-    → Keeps pool ts p (record { start = p .start + 131072 * near; size = p .size + 131072 * pairs })
-keeps pool ts p {near} {pairs} h l e =
+pub keeps : (pool : List ℕ) (ts : List Text) (p : Place) {near : ℕ} (word : ℕ) → p .start < 131072 → word % 131072 ≡ p .size → front (bytesAt pool p) ts (length ts) ≡ record { near = near; pairs = word / 131072 }
+    → Keeps pool ts p (record { start = p .start + 131072 * near; size = word })
+keeps pool ts p {near} word h s e =
     let a : (p .start + 131072 * near) % 131072 ≡ p .start = omega arith in
-    let b : (p .size + 131072 * pairs) % 131072 ≡ p .size = omega arith in
-    let c : (p .start + 131072 * near) / 131072 ≡ near = omega arith in
-    let d : (p .size + 131072 * pairs) / 131072 ≡ pairs = omega arith in
-    record { place = rw (a, b); front = rw (c, d) (sym e) }
+    let b : (p .start + 131072 * near) / 131072 ≡ near = omega arith in
+    record { place = rw (a, s); front = rw b (sym e) }

@@ -18,12 +18,11 @@ pub enum Found {
     Nothing(usize, usize),
 }
 
-// Whether a kept literal may equal a text of `size` bytes with this front.
-fn alike(first: usize, second: usize, size: usize, near: usize, pairs: usize) -> bool
-    requires { ⌜ (size ≤ 65536) × (pairs ≤ 65536) ⌝ }
-    ensures { λ r. ⌜ r ≡ alikeOf size (record { near = near; pairs = pairs }) (second % 131072) (record { near = first / 131072; pairs = second / 131072 }) ⌝ }
+// Whether a kept literal may equal a text that was compared with literal `near` last. `word` has the text's size and the equal pairs.
+fn alike(first: usize, second: usize, near: usize, word: usize) -> bool
+    ensures { λ r. ⌜ r ≡ alikeOf (word % 131072) (record { near = near; pairs = word / 131072 }) (second % 131072) (record { near = first / 131072; pairs = second / 131072 }) ⌝ }
 {
-    if second != size + SPAN * pairs {
+    if second != word {
         return false;
     }
     first / SPAN == near
@@ -39,15 +38,17 @@ pub fn choose(pool: &[u8], work: &[u32], key: usize, start: usize, size: usize) 
 {
     let n = store::count(work, key);
     let mut near = 0;
-    let mut pairs = 0;
+    let mut word = size;
+    let mut at = 0;
     let mut j = 0;
     'search: while j < n {
-        let literal = store::get(work, key, j);
+        at = store::cell(work, key, j, at);
+        let literal = store::get_at(work, key, j, at);
         let first = literal.start;
         let second = literal.size;
-        if alike(first, second, size, near, pairs) {
+        if alike(first, second, near, word) {
             let from = first % SPAN;
-            let mut k = 2 * pairs;
+            let mut k = 2 * (word / SPAN);
             loop {
                 if k == size {
                     break 'search;
@@ -58,13 +59,13 @@ pub fn choose(pool: &[u8], work: &[u32], key: usize, start: usize, size: usize) 
                 k += 1;
             }
             near = j;
-            pairs = k / 2;
+            word = size + SPAN * (k / 2);
         }
         j += 1;
     }
     if j < n {
         Found::Number(j)
     } else {
-        Found::Nothing(start + SPAN * near, size + SPAN * pairs)
+        Found::Nothing(start + SPAN * near, word)
     }
 }

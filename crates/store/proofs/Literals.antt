@@ -12,7 +12,7 @@ use Rattle.format.specs.Read.{nth, total}
 use Rattle.laws.specs.Facts.{by-eq}
 use Rattle.store.specs.Lists.{upto, upto-length, upto-getD, upto-nth, upto-ext, upto-snoc, upto-addAt, upto-total, sum-ext, sum-ge, sum-at, sum-pages}
 use Rattle.store.specs.Store.{added}
-use Rattle.store.specs.Words.{word, taken, allOf, countOf, pages, pageOf, cellAt, placeAt, literalOf, literalsOf, storeOf, GoodLiterals, Good, Changes, nextPage, Written}
+use Rattle.store.specs.Words.{word, taken, allOf, countOf, pages, pageOf, cellAt, cellOf, placeAt, literalOf, literalsOf, storeOf, GoodLiterals, Good, Changes, nextPage, Written}
 use Rattle.store.proofs.Stores.{skip, hit, reading-eq, place-eq, store-eq, slots-below}
 
 literals-length : (w : List ℕ) (k : ℕ) → length (literalsOf w k) ≡ countOf w k
@@ -251,8 +251,19 @@ module _ (w : List ℕ) (good : Good w) (k j : ℕ) (hk : k < 32) (h : j < lengt
   pub get-in : (j < 4096) × (pageOf w k (j / 64) < 96)
   get-in = (omega (arith, counted, count-most w (good .literals) k hk, good .literals .most), page-most w (good .literals) k j hk counted)
 
-  pub get-is : {p s l : ℕ} → p ≡ pageOf w k (j / 64) → s ≡ word w (cellAt p j) → l ≡ word w (cellAt p j + 1) → nth (getD (storeOf w .literals) k []) j ≡ some (record { start = s; size = l })
+  pub cell-in : cellOf w k j + 1 < 16384
+  cell-in = omega (arith, get-in .1)
+
+  pub get-is : {at s l : ℕ} → at ≡ cellOf w k j → s ≡ word w at → l ≡ word w (at + 1) → nth (getD (storeOf w .literals) k []) j ≡ some (record { start = s; size = l })
   get-is e a b = rw (a, b, e) (literal-is w k j hk counted)
+
+-- within a page literals stand side by side
+pub cell-next : (w : List ℕ) (k j : ℕ) {before : ℕ} → (j % 64 ≡ 0 → ⊥) → ((i : ℕ) → j ≡ i + 1 → before ≡ cellOf w k i) → before + 2 ≡ cellOf w k j
+cell-next w k j n h =
+    let e = h (j - 1) (omega arith) in
+    let q : pageOf w k ((j - 1) / 64) ≡ pageOf w k (j / 64) = ap (pageOf w k) (let d : (j - 1) / 64 ≡ j / 64 = omega arith in d) in
+    let m : j % 64 ≡ (j - 1) % 64 + 1 = omega arith in
+    omega arith
 
 module _ (w : List ℕ) (good : Good w) (key : ℕ) (hk : key < 32) (room : total (storeOf w .literals) < 4096) {n p t a b : ℕ}
     (en : n ≡ length (getD (storeOf w .literals) key [])) (ep : p ≡ nextPage w key) (et : t ≡ taken w) (ea : a ≡ pages (n + 1)) (eb : b ≡ pages n) where

@@ -68,8 +68,11 @@ cellAt p j = 4096 + 128 * p + 2 * (j % 64)
 abbrev pub placeAt : List ℕ → ℕ → Place
 placeAt w i = record { start = word w i; size = word w (i + 1) }
 
+abbrev pub cellOf : List ℕ → ℕ → ℕ → ℕ
+cellOf w k j = cellAt (pageOf w k (j / 64)) j
+
 abbrev pub literalOf : List ℕ → ℕ → ℕ → Place
-literalOf w k j = placeAt w (cellAt (pageOf w k (j / 64)) j)
+literalOf w k j = placeAt w (cellOf w k j)
 
 unfoldable pub literalsOf : List ℕ → ℕ → List Place
 literalsOf w k = upto (λ j. literalOf w k j) (countOf w k)

@@ -3,11 +3,11 @@
 ghost use mathlib.Core.Path.{_≡_};
 ghost use mathlib.Core.List.{[]};
 ghost use mathlib.Core.Option.{none, some};
-ghost use Prim.Native.Nat.{_+_, _*_, _/_, _%_, _<_, _≤_, _^_};
+ghost use Prim.Native.Nat.{ℕ, _+_, _*_, _/_, _%_, _<_, _≤_, _^_};
 ghost use lib.ListN.{length, getD};
 ghost use Rattle.format.specs.Read.{nth, total as totalOf};
 ghost use Rattle.store.specs.Store.{empty, lookup, opened, advanced, rested, added, unnumbered};
-ghost use Rattle.store.specs.Words.{storeOf, Good, Changes, pages as pagesOf, allOf, nextPage, Written};
+ghost use Rattle.store.specs.Words.{storeOf, Good, Changes, pages as pagesOf, allOf, cellOf, nextPage, Written};
 ghost use Rattle.store.specs.Meaning.{place, reading, touched, slot, Small};
 
 // The keys of the slots, in order.
@@ -206,7 +206,26 @@ pub fn get(work: &[u32], key: usize, j: usize) -> Place
     ensures { λ r. ⌜ (r .start < 2 ^ 32) × (r .size < 2 ^ 32) ⌝ }
 {
     let p = wide(work[PAGE + 64 * key + j / 64]);
-    let at = CELL + 128 * p + 2 * (j % 64);
+    get_at(work, key, j, CELL + 128 * p + 2 * (j % 64))
+}
+
+// Where literal j of a key stands, if the one before it stands at `before`. So a search of all of them looks up each page once.
+pub fn cell(work: &[u32], key: usize, j: usize, before: usize) -> usize
+    requires { ⌜ (Good (now work)) × (key < 32) × (j < length (getD (storeOf (now work) .literals) key [])) × ((i : ℕ) → j ≡ i + 1 → before ≡ cellOf (now work) key i) ⌝ }
+    ensures { λ r. ⌜ r ≡ cellOf (now (work .entry)) key j ⌝ }
+{
+    if j % 64 == 0 {
+        return CELL + 128 * wide(work[PAGE + 64 * key + j / 64]);
+    }
+    before + 2
+}
+
+// Literal j of a key, which stands at `at`.
+pub fn get_at(work: &[u32], key: usize, j: usize, at: usize) -> Place
+    requires { ⌜ (Good (now work)) × (key < 32) × (j < length (getD (storeOf (now work) .literals) key [])) × (at ≡ cellOf (now work) key j) ⌝ }
+    ensures { λ r. ⌜ nth (getD (storeOf (now (work .entry)) .literals) key []) j ≡ some (place r) ⌝ }
+    ensures { λ r. ⌜ (r .start < 2 ^ 32) × (r .size < 2 ^ 32) ⌝ }
+{
     let start = wide(work[at]);
     let size = wide(work[at + 1]);
     Place { start, size }

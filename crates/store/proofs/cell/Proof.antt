@@ -1,0 +1,62 @@
+-- `store::cell` meets its contract. Assumes nothing.
+use native.Mathlib.Omega.{arith}
+use denote.Ref.{now}
+use borrow.Author.Needs.{needs}
+use Rattle.store.proofs.Literals.{get-in, cell-in, cell-next}
+use Rattle.store.proofs.cell.Statement.{statement}
+use Rattle.store.proofs.cell.Tie as tie
+
+mul-wide : tie.Need-mul-wide
+mul-wide c = search needs
+
+add-wide : tie.Need-add-wide
+add-wide c = search needs
+
+add-wide-2 : tie.Need-add-wide-2
+add-wide-2 c = search needs
+
+mul-wide-2 : tie.Need-mul-wide-2
+mul-wide-2 c = search needs
+
+shared-slice-read-wide : tie.Need-shared-slice-read-wide
+shared-slice-read-wide c =
+    let s = c .before .before .before in
+    omega (arith, get-in (now (s .args .work)) (s .pre .0) (s .args .key) (s .args .j) (s .pre .1) (s .pre .2), s .pre .0 .whole)
+
+wide-requires : tie.Need-wide-requires
+wide-requires c κs = search needs
+
+mul-result : tie.Need-mul-result
+mul-result c = search needs
+
+add-result : tie.Need-add-result
+add-result c = search needs
+
+returns : tie.Need-returns
+returns c = search needs
+
+add-result-2 : tie.Need-add-result-2
+add-result-2 c =
+    let s = c .before .before in
+    omega (arith, cell-next (now (s .args .work)) (s .args .key) (s .args .j) (c .if1 .left) (s .pre .3), cell-in (now (s .args .work)) (s .pre .0) (s .args .key) (s .args .j) (s .pre .1) (s .pre .2))
+
+returns-2 : tie.Need-returns-2
+returns-2 c =
+    let s = c .before .before in
+    cell-next (now (s .args .work)) (s .args .key) (s .args .j) (c .if1 .left) (s .pre .3)
+
+pub cell-spec : {M : Type 1} → statement M
+cell-spec =
+    tie.close
+    (tie.spec
+    mul-wide
+    add-wide
+    add-wide-2
+    mul-wide-2
+    shared-slice-read-wide
+    wide-requires
+    mul-result
+    add-result
+    returns
+    add-result-2
+    returns-2)
