@@ -107,14 +107,10 @@ module _ (m : List ℕ) (modes : ℕ) (o z : Bool) (c : Cursor) where
       pub labelled-here : u ≡ meant.the-variants.Here → Opens m c (Here (Label l′) next) (labelled m modes o z)
       labelled-here e = labelled-is (here (some l′)) (ap (meantOf l′) e) (Here (Label l′) next) refl
 
-  pub open-omittable : (r : Opening) → o ≡ true → Opens m c r (labelled m modes o z) → Opens m c r (opened m modes o z)
+  pub open-labelled : (r : Opening) → (o || z) ≡ true → Opens m c r (labelled m modes o z) → Opens m c r (opened m modes o z)
   unfolding opened
-  open-omittable r e x = record { takes = λ w g. record { took = λ most n. rw (e, ← e) (x .takes w g .took most n) } }
+  open-labelled r e x = record { takes = λ w g. record { took = λ most n. rw e (x .takes w g .took most n) } }
 
-  pub open-nullable : (r : Opening) → o ≡ false → z ≡ true → Opens m c r (labelled m modes o z) → Opens m c r (opened m modes o z)
+  pub open-here : (o || z) ≡ false → Inside m c → Opens m c (Here Open c) (opened m modes o z)
   unfolding opened
-  open-nullable r a b x = record { takes = λ w g. record { took = λ most n. rw (a, b, ← a, ← b) (x .takes w g .took most n) } }
-
-  pub open-here : o ≡ false → z ≡ false → Inside m c → Opens m c (Here Open c) (opened m modes o z)
-  unfolding opened
-  open-here a b i = record { takes = λ w g. record { took = λ most n. rw (a, b) (took-ends (here none) c g i) } }
+  open-here e i = record { takes = λ w g. record { took = λ most n. rw e (took-ends (here none) c g i) } }

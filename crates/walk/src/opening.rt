@@ -86,10 +86,7 @@ pub fn open(m: &[u8], modes: u64, omittable: bool, nullable: bool, c: Cursor) ->
     requires { ⌜ Inside (now m) c ⌝ }
     ensures { λ r. ⌜ Opens (now (m .entry)) c r (opened (now (m .entry)) modes omittable nullable) ⌝ }
 {
-    if omittable {
-        return labelled(m, modes, omittable, nullable, c);
-    }
-    if nullable {
+    if omittable | nullable {
         return labelled(m, modes, omittable, nullable, c);
     }
     Opening::Here(Front::Open, c)
