@@ -242,7 +242,8 @@ fn run(
     while k != 0 {
         let omittable = may_be_absent(table, at, repeated);
         let end = next_node(work, at, repeated);
-        let r = value(table, m, rows, work, modes, at, omittable, core, i, left);
+        let start = core;
+        let r = value(table, m, rows, work, modes, at, omittable, start, i, left);
         let Step::Done(after, written) = r else {
             return again(r);
         };
