@@ -1,3 +1,4 @@
 pub mod Typed
 pub mod Nodes
+pub mod Run
 pub mod Root
