@@ -15,7 +15,7 @@ use Rattle.laws.specs.Tree.{size, depthFields}
 use Rattle.laws.specs.Kinds.{node-top, by-no-field}
 use Rattle.store.specs.Words.{word}
 use Rattle.typed.specs.Typed.{Sized, heldIn, IsNode, AreFields, FitsNode, FitFields}
-use Rattle.typed.specs.Nodes.{node-kept, node-inside, First, first-of, first-depth}
+use Rattle.typed.specs.Nodes.{node-kept, First, first-of, first-depth}
 use Rattle.fit.specs.declared.Step.{Step}
 use Rattle.fit.specs.declared.Step.the-variants.{Done, Refused}
 use Rattle.fit.specs.declared.Pass.{Pass}
@@ -82,9 +82,9 @@ module _ (how : Pass) (table pool rows out₀ w₀ : List ℕ) (node count i₀ 
         → (modes : ℕ) → Suits how modes → (v : Node) → IsNode table w₀ node v → Runs how table pool rows out w core out₁ w₁ r i modes (entry v)
     entry-does y modes s v h = y .writes modes s v (node-kept table w₀ w node v whole (x .same .at) h)
 
-    pub entries-not : {out₁ w₁ : List ℕ} {r : Step} {n j : ℕ} → (k ≡ 0 → ⊥) → WritesNode how table pool rows out w core out₁ w₁ r i node false → r ≡ Refused n j
-        → WritesEntries how table pool rows out₀ w₀ core₀ out₁ w₁ r i₀ node count
-    entries-not z y q = record { writes = λ modes s v h. x .leads modes s v h .onward (along (entries-some k (entry v) _ z) (seqs-not _ (fitEntries (k - 1) (entry v)) (entry-does y modes s v h) q)) }
+    pub entries-not : {out₁ w₁ : List ℕ} {r r′ : Step} {n j : ℕ} → (k ≡ 0 → ⊥) → WritesNode how table pool rows out w core out₁ w₁ r i node false → r ≡ Refused n j → r′ ≡ r
+        → WritesEntries how table pool rows out₀ w₀ core₀ out₁ w₁ r′ i₀ node count
+    entries-not z y q t = rw t (record { writes = λ modes s v h. x .leads modes s v h .onward (along (entries-some k (entry v) _ z) (seqs-not _ (fitEntries (k - 1) (entry v)) (entry-does y modes s v h) q)) })
 
     pub entries-again : {left i₁ core₁ : ℕ} {out₁ w₁ : List ℕ} {r : Step} → FitsNode table w₀ left node → (k ≡ 0 → ⊥) → length out₁ ≡ length out → length w₁ ≡ length w
         → WritesNode how table pool rows out w core out₁ w₁ r i node false → r ≡ Done i₁ core₁ → EntriesAt out₁ w₁ (k - 1) i₁ core₁
@@ -163,12 +163,12 @@ module _ (how : Pass) (table pool rows out₀ w₀ : List ℕ) (node₀ count i�
           → fitAll (heldIn table) (y .rest) t ≡ (fitValue (heldIn table) (omittable (nodeAt table node)) (first-at ws y z .first) t >>= (λ u. fitAll (heldIn table) (first-at ws y z .others) (u .1) >>= (λ v. ok (joined u v))))
       rest-some ws y z t = ap (λ vs. fitAll (heldIn table) vs t) (first-at ws y z .splits) ∙ all-some (heldIn table) _ _ _ t
 
-      pub fields-not : {n j : ℕ} → (k ≡ 0 → ⊥) → r ≡ Refused n j → WritesFields how table pool rows out₀ w₀ core₀ out₁ w₁ r i₀ node₀ count
-      fields-not z q = record {
+      pub fields-not : {r′ : Step} {n j : ℕ} → (k ≡ 0 → ⊥) → r ≡ Refused n j → r′ ≡ r → WritesFields how table pool rows out₀ w₀ core₀ out₁ w₁ r′ i₀ node₀ count
+      fields-not z q t = rw t (record {
         writes = λ modes s ws a e.
             let y = x .rest ws a e in
             y .leads modes s .onward (along (rest-some ws y z _) (seqs-not _ (fitAll (heldIn table) (first-at ws y z .others)) (field-does ws y z modes s) q));
-      }
+      })
 
       module _ {left i₁ core₁ : ℕ} (f : FitFields table w₀ left node₀ count) (z : k ≡ 0 → ⊥) (q : r ≡ Done i₁ core₁) where
         done : Holds pool rows w₁ i₁ core₁ × Same w w₁
@@ -178,12 +178,10 @@ module _ (how : Pass) (table pool rows out₀ w₀ : List ℕ) (node₀ count i�
             (done-holds a q, done-same a q)
 
         -- the next field stands where this one ends
-        next-node : {node₁ : ℕ} → node₁ ≡ word w₁ node → (ws : Fields) (y : RestAt ws out w k node i core) → node₁ ≡ node + size (first-at ws y z .first)
-        next-node e ws y =
-            let b = node-inside table w left node (fields-fits f z) whole in
-            e ∙ done .1 .at node (b .0) ∙ node-top _ _ _ _ node (first-at ws y z .first) (first-here ws y z) .after
+        next-node : {node₁ : ℕ} → node₁ ≡ word w node → (ws : Fields) (y : RestAt ws out w k node i core) → node₁ ≡ node + size (first-at ws y z .first)
+        next-node e ws y = e ∙ node-top _ _ _ _ node (first-at ws y z .first) (first-here ws y z) .after
 
-        rest-again : {node₁ : ℕ} → node₁ ≡ word w₁ node → (ws : Fields) (y : RestAt ws out w k node i core) → RestAt ws out₁ w₁ (k - 1) node₁ i₁ core₁
+        rest-again : {node₁ : ℕ} → node₁ ≡ word w node → (ws : Fields) (y : RestAt ws out w k node i core) → RestAt ws out₁ w₁ (k - 1) node₁ i₁ core₁
         rest-again e ws y =
             let u = first-at ws y z in
             let b = first-depth (omittable (nodeAt table node)) (u .first) (u .others) in
@@ -197,7 +195,7 @@ module _ (how : Pass) (table pool rows out₀ w₀ : List ℕ) (node₀ count i�
               leads = λ modes s. record { onward = λ d₂. y .leads modes s .onward (along (rest-some ws y z _) (seqs _ (fitAll (heldIn table) (u .others)) (field-does ws y z modes s) q d₂)) };
             }
 
-        pub fields-again : {node₁ : ℕ} → node₁ ≡ word w₁ node → length out₁ ≡ length out → length w₁ ≡ length w → FieldsAt out₁ w₁ (k - 1) node₁ i₁ core₁
+        pub fields-again : {node₁ : ℕ} → node₁ ≡ word w node → length out₁ ≡ length out → length w₁ ≡ length w → FieldsAt out₁ w₁ (k - 1) node₁ i₁ core₁
         fields-again e e₁ e₂ = record {
           lent = e₁ ∙ x .lent;
           worked = e₂ ∙ x .worked;

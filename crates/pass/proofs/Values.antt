@@ -127,11 +127,11 @@ module _ (how : Pass) (table pool rows out w : List ℕ) (i core node : ℕ) (ho
       first-does : (modes : ℕ) (ws : Fields) → fieldCount ws ≡ count → Writes (how .put) modes (heldIn table) pool rows out w core out₁ w r₁ (fitRecord (fieldCount ws) labelled (restOf pool rows i))
       first-does modes ws e = rw e (d .writes modes (heldIn table) w holds)
 
-      pub record-not : {n j : ℕ} → r₁ ≡ Refused n j → WritesWire how table pool rows out w core out₁ w r₁ i node labelled
-      record-not q = record {
+      pub record-not : {r : Step} {n j : ℕ} → r₁ ≡ Refused n j → r ≡ r₁ → WritesWire how table pool rows out w core out₁ w r i node labelled
+      record-not q t = rw t (record {
         writes = λ modes s v h. by-fields k c (λ u. Runs how table pool rows out w core out₁ w r₁ i modes (fitWire (heldIn table) u labelled)) v h
             (λ ws e g. along (record-first (heldIn table) labelled (restOf pool rows i) ws) (seqs-not _ (fitAll (heldIn table) ws) (first-does modes ws e) q));
-      }
+      })
 
       pub record-then : {out′ w′ : List ℕ} {r : Step} {i₁ core₁ : ℕ} → r₁ ≡ Done i₁ core₁ → WritesFields how table pool rows out₁ w core₁ out′ w′ r i₁ (node + 1) count
           → WritesWire how table pool rows out w core out′ w′ r i node labelled
@@ -179,11 +179,11 @@ module _ (how : Pass) (table pool rows out w : List ℕ) (i core node : ℕ) (ho
       mark-does : (modes : ℕ) → Writes (how .put) modes (heldIn table) pool rows out w core out₁ w r₁ (ok (mark (integer n) ∷ [], restOf pool rows (i + 1)))
       mark-does modes = d .writes pool rows (word-there pool rows i arrayRow e) .writes modes (heldIn table) w holds
 
-      pub array-refused : {m j : ℕ} → r₁ ≡ Refused m j → WritesWire how table pool rows out w core out₁ w r₁ i node false
-      array-refused q = record {
+      pub array-refused : {r : Step} {m j : ℕ} → r₁ ≡ Refused m j → r ≡ r₁ → WritesWire how table pool rows out w core out₁ w r i node false
+      array-refused q t = rw t (record {
         writes = λ modes s v h. by-entries (λ u. Runs how table pool rows out w core out₁ w r₁ i modes (fitWire (heldIn table) u false)) v h
             (λ u g. along (array-value u e b ∙ any-label n u) (seqs-not _ (entriesOf n u) (mark-does modes) q));
-      }
+      })
 
       pub array-then : {out′ w′ : List ℕ} {r : Step} {i₁ core₁ : ℕ} → r₁ ≡ Done i₁ core₁ → WritesEntries how table pool rows out₁ w core₁ out′ w′ r i₁ (node + 1) n
           → WritesWire how table pool rows out w core out′ w′ r i node false

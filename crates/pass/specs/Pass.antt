@@ -1,6 +1,6 @@
 -- What each function of a pass has done: what the rows write, for the type that the table has at its node.
 use mathlib.Core.Path.{_≡_}
-use mathlib.Core.Bool.{Bool, false, not}
+use mathlib.Core.Bool.{Bool, true, false, not}
 use mathlib.Core.List.{List}
 use Prim.Native.Nat.{ℕ}
 use Rattle.format.specs.Modes.{inlineEverything, noDeduplication}
@@ -37,3 +37,8 @@ module _ (how : Pass) (table pool rows out w : List ℕ) (core : ℕ) (out′ w�
 
     pub record WritesEntries (count : ℕ) : Type 0 where
       pub writes : (modes : ℕ) → Suits how modes → (v : Node) → IsNode table w node v → Runs modes (fitEntries count (λ t. fitValue (heldIn table) false v t))
+
+    -- so many values by one loop: entries or fields
+    pub record WritesRun (repeated : Bool) (count : ℕ) : Type 0 where
+      pub entries : repeated ≡ true → WritesEntries count
+      pub fields : repeated ≡ false → WritesFields count

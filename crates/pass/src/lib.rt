@@ -5,9 +5,10 @@ ghost use mathlib.Core.Bool.{false};
 ghost use Prim.Native.Nat.{_+_, _*_, _≤_, _<_, _^_};
 ghost use lib.ListN.{length};
 ghost use Rattle.format.specs.Table.{nodeAt, RECORD, ARRAY, BLOCK};
-ghost use Rattle.typed.specs.Typed.{Sized, FitsNode, FitsWire, FitFields, below as belowOf};
+ghost use Rattle.typed.specs.Typed.{Sized, FitsNode, FitsWire, below as belowOf};
+ghost use Rattle.typed.specs.Run.{FitRun};
 ghost use Rattle.fit.specs.Writes.{Holds};
-ghost use Rattle.pass.specs.Pass.{WritesNode, WritesWire, WritesFields, WritesEntries};
+ghost use Rattle.pass.specs.Pass.{WritesNode, WritesWire, WritesRun};
 use fit::Opening;
 use fit::Pass;
 use fit::Step;
@@ -15,6 +16,16 @@ use fit::row;
 use fit::row::Word;
 use rows::kind;
 use table::nodes;
+
+// The same answer, made anew: a copy of it would go through memory, which takes longer.
+fn again(r: Step) -> Step
+    ensures { λ same. ⌜ same ≡ r ⌝ }
+{
+    match r {
+        Step::Refused(number, second) => Step::Refused(number, second),
+        Step::Done(next, core) => Step::Done(next, core),
+    }
+}
 
 // The value's own node, below a NULLABLE or not.
 fn below(nullable: bool, node: usize) -> usize
@@ -62,7 +73,7 @@ fn block(
 }
 
 // The value at a node, on a path of at most `left` nodes from here on.
-pub fn value(
+fn value(
     table: &[u8],
     rows: &[u64],
     pool: &[u8],
@@ -162,9 +173,12 @@ fn record(
     let count = nodes::argument_at(table, node);
     let r = fit::record(rows, pool, out, how.put, labelled, count, i, core);
     let Step::Done(next, end) = r else {
-        return r;
+        return again(r);
     };
-    fields(
+    if count == 0 {
+        return Step::Done(next, end);
+    }
+    run(
         table,
         rows,
         pool,
@@ -172,10 +186,11 @@ fn record(
         work,
         how,
         node + 1,
-        count,
+        false,
         next,
         end,
         left - 1,
+        count as u64,
     )
 }
 
@@ -200,9 +215,9 @@ fn array(
     // a count that is no label has no rows enough for it, and any label will do
     let r = fit::mark(out, how.put, i, core, label::integer_of(count));
     let Step::Done(next, end) = r else {
-        return r;
+        return again(r);
     };
-    entries(
+    run(
         table,
         rows,
         pool,
@@ -210,15 +225,18 @@ fn array(
         work,
         how,
         node + 1,
-        count,
+        true,
         next,
         end,
         left - 1,
+        count,
     )
 }
 
-// So many fields, from a node on.
-fn fields(
+// So many values: entries, which all have the type at `node`, or fields, the first of them at `node`. One loop for both,
+// so that a call is made for what a record or an array holds, and none for each value. A count of entries may be any
+// word: the first row that is missing ends them.
+fn run(
     table: &[u8],
     rows: &[u64],
     pool: &[u8],
@@ -226,20 +244,22 @@ fn fields(
     work: &mut [u32],
     how: Pass,
     node: usize,
-    count: usize,
+    repeated: bool,
     i: usize,
     core: usize,
     left: usize,
+    count: u64,
 ) -> Step
-    requires { ⌜ (Holds (now pool) (now rows) (now work) i core) × Sized (now table) × FitFields (now table) (now work) left node count ⌝ }
-    ensures { λ r. ⌜ WritesFields how (now (table .entry)) (now (pool .entry)) (now (rows .entry)) (now (out .entry)) (now (work .entry)) core (now (out .exit)) (now (work .exit)) r i node count ⌝ }
+    requires { ⌜ (Holds (now pool) (now rows) (now work) i core) × Sized (now table) × FitRun (now table) (now work) left node repeated count ⌝ }
+    ensures { λ r. ⌜ WritesRun how (now (table .entry)) (now (pool .entry)) (now (rows .entry)) (now (out .entry)) (now (work .entry)) core (now (out .exit)) (now (work .exit)) r i node repeated count ⌝ }
 {
     let mut k = count;
     let mut at = node;
     let mut n = i;
     let mut end = core;
     while k != 0 {
-        let omittable = nodes::is_omittable(table, at);
+        let omittable = typed::may_be_absent(table, at, repeated);
+        let after = typed::next_node(work, at, repeated);
         let r = value(
             table,
             rows,
@@ -254,9 +274,9 @@ fn fields(
             left,
         );
         let Step::Done(next, further) = r else {
-            return r;
+            return again(r);
         };
-        at = nodes::end_at(work, at);
+        at = after;
         n = next;
         end = further;
         k -= 1;
@@ -264,34 +284,18 @@ fn fields(
     Step::Done(n, end)
 }
 
-// So many entries of one type. A count may be any word: the first row that is missing ends them.
-fn entries(
+// The whole tree: the value at the table's root, from the first row on.
+pub fn root(
     table: &[u8],
     rows: &[u64],
     pool: &[u8],
     out: &mut [u8],
     work: &mut [u32],
     how: Pass,
-    node: usize,
-    count: u64,
-    i: usize,
     core: usize,
-    left: usize,
 ) -> Step
-    requires { ⌜ (Holds (now pool) (now rows) (now work) i core) × Sized (now table) × FitsNode (now table) (now work) left node ⌝ }
-    ensures { λ r. ⌜ WritesEntries how (now (table .entry)) (now (pool .entry)) (now (rows .entry)) (now (out .entry)) (now (work .entry)) core (now (out .exit)) (now (work .exit)) r i node count ⌝ }
+    requires { ⌜ (Holds (now pool) (now rows) (now work) 0 core) × Sized (now table) × FitsNode (now table) (now work) 32 0 ⌝ }
+    ensures { λ r. ⌜ WritesNode how (now (table .entry)) (now (pool .entry)) (now (rows .entry)) (now (out .entry)) (now (work .entry)) core (now (out .exit)) (now (work .exit)) r 0 0 false ⌝ }
 {
-    let mut k = count;
-    let mut n = i;
-    let mut end = core;
-    while k != 0 {
-        let r = value(table, rows, pool, out, work, how, false, node, n, end, left);
-        let Step::Done(next, further) = r else {
-            return r;
-        };
-        n = next;
-        end = further;
-        k -= 1;
-    }
-    Step::Done(n, end)
+    run(table, rows, pool, out, work, how, 0, true, 0, core, 32, 1)
 }

@@ -75,19 +75,7 @@ fn count(
     ensures { λ r. ⌜ CountsIn modes (now (table .entry)) (now (pool .entry)) (now (rows .entry)) (now (out .entry)) (now (work .entry)) (now (out .exit)) (now (work .exit)) r ⌝ }
 {
     store::clear(work);
-    let r = pass::value(
-        table,
-        rows,
-        pool,
-        out,
-        work,
-        pass_in(modes, false),
-        false,
-        0,
-        0,
-        0,
-        32,
-    );
+    let r = pass::root(table, rows, pool, out, work, pass_in(modes, false), 0);
     match r {
         Step::Refused(number, second) => Size::Refused(number, second),
         Step::Done(next, core) => {
@@ -132,19 +120,7 @@ fn put(
     ensures { λ _. ⌜ PutsIn modes (now (table .entry)) (now (pool .entry)) (now (rows .entry)) (now (out .exit)) ⌝ }
 {
     let start = emit::lay_out(out, work, modes, core);
-    pass::value(
-        table,
-        rows,
-        pool,
-        out,
-        work,
-        pass_in(modes, true),
-        false,
-        0,
-        0,
-        start,
-        32,
-    );
+    pass::root(table, rows, pool, out, work, pass_in(modes, true), start);
 }
 
 // The message at the front of the output, and its size.
