@@ -1,42 +1,23 @@
 -- The loop of a run is the loop over entries or the one over fields, and each law here goes by which of the two.
 use mathlib.Core.Path.{_≡_, refl, sym, ap, _∙_, subst, subst₂}
-use mathlib.Core.Bool.{Bool, true, false, cond}
+use mathlib.Core.Bool.{Bool, true, false}
 use mathlib.Core.List.{List, [], _++_, append-nil}
 use Prim.Native.Nat.{ℕ, _-_}
-use native.Mathlib.Omega.{arith}
 use lib.ListN.{length}
 use Rattle.format.specs.Answer.{Answer, ok, refuse, _>>=_}
-use Rattle.format.specs.Table.{nodeAt, omittable}
+use Rattle.format.specs.Table.{nodeAt}
 use Rattle.format.specs.Row.{Place, Row}
 use Rattle.format.specs.Read.{inMessage, State, Read, entries}
 use Rattle.label.specs.declared.cursor.Cursor.{Cursor}
 use Rattle.pieces.specs.Pieces.{Inside}
-use Rattle.store.specs.Words.{word}
 use Rattle.leaf.specs.declared.Step.{Step}
 use Rattle.leaf.specs.declared.Step.the-variants.{Done, Refused}
 use Rattle.leaf.specs.State.{Ready}
 use Rattle.leaf.specs.Does.{along}
-use Rattle.typed.specs.Typed.{Sized, FitsNode, FitFields}
-use Rattle.walk.specs.Walk.{ReadsValue, ReadsFields, ReadsEntries, ReadsRun, FitRun, absentIn, nextIn}
+use Rattle.typed.specs.Typed.{Sized, FitsNode}
+use Rattle.typed.specs.Run.{FitRun, absentIn, nextIn, by-either}
+use Rattle.walk.specs.Walk.{ReadsValue, ReadsFields, ReadsRun}
 use Rattle.walk.proofs.Loops.{EntriesAt, entries-begin, entries-fits, entries-not, entries-again, entries-end, FieldsAt, fields-begin, fields-fits, fields-not, fields-again, fields-end}
-
-by-either : {X : Type 0} (b : Bool) → (b ≡ true → X) → (b ≡ false → X) → X
-by-either true f g = f refl
-by-either false f g = g refl
-
-true-not : true ≡ false → ⊥
-true-not e = let y : _≡_ {A = ℕ} 0 1 = cc in omega arith
-
--- ---- what it asks
-
-module _ {table work : List ℕ} {left node count : ℕ} where
-  pub run-entries : FitsNode table work left node → FitRun table work left node true count
-  run-entries f = record { entries = λ e. f; fields = λ e. absurd (true-not e) }
-
-  pub run-fields : FitFields table work left node count → FitRun table work left node false count
-  run-fields f = record { entries = λ e. absurd (true-not (sym e)); fields = λ e. f }
-
--- ---- the loop
 
 pub record RunAt (table m w₀ l₀ : List ℕ) (modes node₀ : ℕ) (repeated : Bool) (count : ℕ) (c₀ : Cursor) (n₀ : ℕ) (w l : List ℕ) (k node : ℕ) (c : Cursor) (n : ℕ) : Type 0 where
   pub lent : length l ≡ length l₀

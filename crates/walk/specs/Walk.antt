@@ -1,19 +1,18 @@
 -- What each function of the walk has done: what the definition answers for the type that the table has at its node.
 use mathlib.Core.Path.{_≡_}
-use mathlib.Core.Bool.{Bool, true, false, cond}
+use mathlib.Core.Bool.{Bool, true, false}
 use mathlib.Core.List.{List}
 use mathlib.Core.Option.{Option}
 use Prim.Native.Nat.{ℕ, _+_, _≤_}
 use lib.IntN.{ℤ}
-use Rattle.format.specs.Table.{TableNode, omittable, Wire, Node, Fields}
+use Rattle.format.specs.Table.{Wire, Node, Fields}
 use Rattle.format.specs.Read.{inMessage, entries, wire, all, fieldCount}
 use Rattle.laws.specs.Tree.{depthWire, depth, depthFields}
 use Rattle.label.specs.declared.cursor.Cursor.{Cursor}
-use Rattle.store.specs.Words.{word}
 use Rattle.leaf.specs.declared.Step.{Step}
 use Rattle.leaf.specs.State.{Walks}
 use Rattle.walk.specs.Opening.{valueAt}
-use Rattle.typed.specs.Typed.{heldIn, IsNode, IsWire, AreFields, FitsNode, FitFields}
+use Rattle.typed.specs.Typed.{heldIn, IsNode, IsWire, AreFields}
 
 -- The work and the rows before and after a step that began with the core at c and n rows, over the type at a node.
 module _ (m work work′ before now : List ℕ) (c : Cursor) (n : ℕ) (r : Step) (table : List ℕ) (modes node : ℕ) where
@@ -33,14 +32,3 @@ module _ (m work work′ before now : List ℕ) (c : Cursor) (n : ℕ) (r : Step
   pub record ReadsRun (repeated : Bool) (count : ℕ) : Type 0 where
     pub entries : repeated ≡ true → ReadsEntries count
     pub fields : repeated ≡ false → ReadsFields count
-
--- What a run asks of the table, whether a value of it may be absent, and where the next one's node is.
-pub record FitRun (table work : List ℕ) (left node : ℕ) (repeated : Bool) (count : ℕ) : Type 0 where
-  pub entries : repeated ≡ true → FitsNode table work left node
-  pub fields : repeated ≡ false → FitFields table work left node count
-
-abbrev pub absentIn : Bool → TableNode → Bool
-absentIn repeated x = cond repeated false (omittable x)
-
-abbrev pub nextIn : Bool → ℕ → List ℕ → ℕ
-nextIn repeated node work = cond repeated node (word work node)

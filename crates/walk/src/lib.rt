@@ -9,7 +9,8 @@ ghost use Rattle.pieces.specs.Pieces.{Inside};
 ghost use Rattle.leaf.specs.State.{Ready};
 ghost use Rattle.leaf.specs.Meaning.{frontOf};
 ghost use Rattle.typed.specs.Typed.{Sized, FitsNode, FitsWire};
-ghost use Rattle.walk.specs.Walk.{ReadsValue, ReadsWire, ReadsRun, FitRun, absentIn, nextIn};
+ghost use Rattle.typed.specs.Run.{FitRun};
+ghost use Rattle.walk.specs.Walk.{ReadsValue, ReadsWire, ReadsRun};
 
 pub mod opening;
 
@@ -195,28 +196,6 @@ fn array(
     )
 }
 
-// Of a value in a run: only a field may be absent.
-fn may_be_absent(table: &[u8], node: usize, repeated: bool) -> bool
-    requires { ⌜ 11 + 4 * node ≤ length (now table) ⌝ }
-    ensures { λ r. ⌜ r ≡ absentIn repeated (nodeAt (now (table .entry)) node) ⌝ }
-{
-    if repeated {
-        return false;
-    }
-    nodes::is_omittable(table, node)
-}
-
-// The node of the next value in a run.
-fn next_node(work: &[u32], node: usize, repeated: bool) -> usize
-    requires { ⌜ node < length (now work) ⌝ }
-    ensures { λ r. ⌜ r ≡ nextIn repeated node (now (work .entry)) ⌝ }
-{
-    if repeated {
-        return node;
-    }
-    nodes::end_at(work, node)
-}
-
 // So many values: entries, which all have the type at `node`, or fields, the first of them at `node`. One loop for both,
 // so that a call is made for what a record or an array holds, and none for each value.
 fn run(
@@ -240,8 +219,8 @@ fn run(
     let mut core = c;
     let mut i = n;
     while k != 0 {
-        let omittable = may_be_absent(table, at, repeated);
-        let end = next_node(work, at, repeated);
+        let omittable = typed::may_be_absent(table, at, repeated);
+        let end = typed::next_node(work, at, repeated);
         let start = core;
         let r = value(table, m, rows, work, modes, at, omittable, start, i, left);
         let Step::Done(after, written) = r else {

@@ -9,7 +9,8 @@ use mir.ValLaws.{toZ-ofZ}
 use lib.Dec.{eqb}
 use Prim.Native.Nat.{_+_, _*_}
 use Rattle.typed.specs.Nodes.{node-inside, wire-inside, block-inside, fits-entry}
-use Rattle.walk.proofs.Runs.{RunAt, run-entries, run-fields, run-begin, run-fits, run-not, run-again, run-end, no-fields}
+use Rattle.typed.specs.Run.{run-entries, run-fields}
+use Rattle.walk.proofs.Runs.{RunAt, run-begin, run-fits, run-not, run-again, run-end, no-fields}
 use Rattle.walk.proofs.Values.{value-refused, value-gone, value-here, opened-inside, value-fits, record-24, record-31, record-then, record-fits, array-23, array-24, array-31, array-then, own-inside, boolean-does}
 use Prim.Native.Nat.{ℕ, _<_}
 use borrow.Fn.Kinds.{In}
@@ -39,8 +40,8 @@ use Rattle.table.proofs.nodes.argument_at.Reads as argument-at-reads
 use Rattle.table.proofs.nodes.kind_at.Reads as kind-at-reads
 use Rattle.walk.proofs.again.Reads as again-reads
 use Rattle.walk.proofs.block.Reads as block-reads
-use Rattle.walk.proofs.may_be_absent.Reads as may-be-absent-reads
-use Rattle.walk.proofs.next_node.Reads as next-node-reads
+use Rattle.typed.proofs.may_be_absent.Reads as may-be-absent-reads
+use Rattle.typed.proofs.next_node.Reads as next-node-reads
 use Rattle.walk.proofs.opening.below.Reads as below-reads
 use Rattle.walk.proofs.opening.open.Reads as open-reads
 use Rattle.walk.proofs.+array+record+run+value+wire.{statement}

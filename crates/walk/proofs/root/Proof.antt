@@ -1,6 +1,7 @@
 -- `walk::root` meets its contract: a run of one entry.
 use borrow.Author.Needs.{needs}
-use Rattle.walk.proofs.Runs.{run-entries, one-entry}
+use Rattle.walk.proofs.Runs.{one-entry}
+use Rattle.typed.specs.Run.{run-entries}
 use Rattle.walk.proofs.root.Statement.{statement}
 use Rattle.walk.proofs.root.Tie as tie
 
