@@ -127,6 +127,7 @@ module _ (how : Pass) (table pool rows out₀ w₀ : List ℕ) (node₀ count i�
     pub worked : length w ≡ length w₀
     pub holds : Holds pool rows w i core
     pub same : Same w₀ w
+    pub onward : node₀ ≤ node
     pub rest : (ws : Fields) → AreFields table w₀ node₀ ws → fieldCount ws ≡ count → RestAt ws out w k node i core
 
   pub fields-begin : Holds pool rows w₀ i₀ core₀ → FieldsAt out₀ w₀ count node₀ i₀ core₀
@@ -135,6 +136,7 @@ module _ (how : Pass) (table pool rows out₀ w₀ : List ℕ) (node₀ count i�
     worked = refl;
     holds = h;
     same = same-self w₀;
+    onward = omega arith;
     rest = λ ws a e. record { rest = ws; are = a; counted = e; deep = omega arith; leads = λ modes s. leads-self };
   }
 
@@ -201,6 +203,7 @@ module _ (how : Pass) (table pool rows out₀ w₀ : List ℕ) (node₀ count i�
           worked = e₂ ∙ x .worked;
           holds = done .0;
           same = same-then (x .same) (done .1);
+          onward = omega (arith, x .onward, next-node e (f .types) (x .rest (f .types) (f .are) (f .counted)));
           rest = λ ws a c. rest-again e ws (x .rest ws a c);
         }
 

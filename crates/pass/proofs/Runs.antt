@@ -2,7 +2,8 @@
 use mathlib.Core.Path.{_≡_, refl, sym, ap, _∙_, subst, subst₂}
 use mathlib.Core.Bool.{Bool, true, false}
 use mathlib.Core.List.{List, [], _++_, append-nil}
-use Prim.Native.Nat.{ℕ, _-_}
+use Prim.Native.Nat.{ℕ, _-_, _≤_}
+use native.Mathlib.Omega.{arith}
 use lib.ListN.{length}
 use Rattle.format.specs.Answer.{Answer, ok, refuse, _>>=_}
 use Rattle.format.specs.Table.{nodeAt}
@@ -21,6 +22,7 @@ pub record RunAt (how : Pass) (table pool rows out₀ w₀ : List ℕ) (node₀ 
   pub lent : length out ≡ length out₀
   pub worked : length w ≡ length w₀
   pub holds : Holds pool rows w i core
+  pub onward : node₀ ≤ node
   pub stays : repeated ≡ true → node ≡ node₀
   pub entries : repeated ≡ true → EntriesAt how table pool rows out₀ w₀ node₀ count i₀ core₀ out w k i core
   pub fields : repeated ≡ false → FieldsAt how table pool rows out₀ w₀ node₀ count i₀ core₀ out w k node i core
@@ -31,6 +33,7 @@ module _ (how : Pass) (table pool rows out₀ w₀ : List ℕ) (node₀ : ℕ) (
     lent = refl;
     worked = refl;
     holds = h;
+    onward = omega arith;
     stays = λ e. refl;
     entries = λ e. entries-begin how table pool rows out₀ w₀ node₀ count i₀ core₀ h;
     fields = λ e. fields-begin how table pool rows out₀ w₀ node₀ count i₀ core₀ h;
@@ -67,6 +70,7 @@ module _ (how : Pass) (table pool rows out₀ w₀ : List ℕ) (node₀ : ℕ) (
             lent = e₁ ∙ x .lent;
             worked = e₂ ∙ x .worked;
             holds = by-either repeated (λ e. es e .holds) (λ e. fs e .holds);
+            onward = by-either repeated (λ e. omega (arith, next-is true e ∙ x .stays e)) (λ e. fs e .onward);
             stays = λ e. next-is true e ∙ x .stays e;
             entries = es;
             fields = fs;

@@ -1,6 +1,6 @@
 -- A value by what stands in front of it and by its kind, at each return. Assumes nothing.
 use mathlib.Core.Path.{_≡_, refl, sym, ap, ap₂, _∙_, subst}
-use mathlib.Core.Bool.{Bool, false, not, _&&_}
+use mathlib.Core.Bool.{Bool, true, false, not, _&&_}
 use mathlib.Core.List.{List, [], _∷_}
 use mathlib.Core.Option.{none, some}
 use Prim.Native.Nat.{ℕ, _+_, _-_, _^_, _<_, _≤_}
@@ -23,8 +23,9 @@ use Rattle.theory.specs.Sent.{length-shown}
 use Rattle.table.specs.declared.nodes.Leaf as code
 use Rattle.laws.specs.Kinds.{by-boolean, by-array, by-record, by-block}
 use Rattle.table.specs.Held.{leafIn, leaf-held, dedup-held}
-use Rattle.typed.specs.Typed.{heldIn, IsNode, IsWire, AreFields, FitsNode, FitsWire, FitFields, below}
-use Rattle.typed.specs.Nodes.{nullable-is, wire-of, fits-wire, fits-fields}
+use Rattle.typed.specs.Typed.{heldIn, IsNode, IsWire, AreFields, FitsNode, FitsWire, below}
+use Rattle.typed.specs.Nodes.{nullable-is, wire-of, fits-wire, fits-fields, fits-entry}
+use Rattle.typed.specs.Run.{FitRun, run-fields, run-entries}
 use Rattle.fit.specs.declared.Step.{Step}
 use Rattle.fit.specs.declared.Step.the-variants.{Done, Refused}
 use Rattle.fit.specs.declared.Pass.{Pass}
@@ -75,12 +76,26 @@ module _ {put omittable nullable : Bool} {pool rows out out′ : List ℕ} {i co
 
 -- ---- the types on the way down
 
-module _ (table w : List ℕ) (left node : ℕ) where
-  pub own-fits : {own : ℕ} {z : Bool} → z ≡ eqb (nodeAt table node .kind) NULLABLE → own ≡ below z node → FitsNode table w left node → FitsWire table w left own
-  own-fits {z = z} e q f = subst (λ n. FitsWire table w left n) (sym q) (fits-wire table w left node z e f)
+module _ (table w : List ℕ) (node : ℕ) where
+  pub own-fits : {own : ℕ} {z : Bool} → z ≡ eqb (nodeAt table node .kind) NULLABLE → own ≡ below z node → FitsNode table w 32 node → FitsWire table w 32 own
+  own-fits {z = z} e q f = subst (λ n. FitsWire table w 32 n) (sym q) (fits-wire table w 32 node z e f)
 
-  pub fields-fit : {count : ℕ} → nodeAt table node .kind ≡ RECORD → count ≡ nodeAt table node .argument → FitsWire table w left node → FitFields table w (left - 1) (node + 1) count
-  fields-fit k c f = subst (λ n. FitFields table w (left - 1) (node + 1) n) (sym c) (fits-fields table w node left f k)
+  pub own-onward : {own : ℕ} {z : Bool} → z ≡ eqb (nodeAt table node .kind) NULLABLE → own ≡ below z node → node ≤ own
+  own-onward {own} {z} e q = go z q
+    where
+      go : (y : Bool) → own ≡ below y node → node ≤ own
+      go true q = omega arith
+      go false q = omega arith
+
+  pub fields-fit : {count : ℕ} → nodeAt table node .kind ≡ RECORD → count ≡ nodeAt table node .argument → FitsWire table w 32 node → FitRun table w 32 (node + 1) false count
+  fields-fit k c f =
+      let g = fits-fields table w node 32 f k in
+      run-fields (record { types = g .types; are = g .are; counted = g .counted ∙ sym c; deep = omega (arith, g .deep); most = omega arith })
+
+  pub entry-fits : {count : ℕ} → nodeAt table node .kind ≡ ARRAY → FitsWire table w 32 node → FitRun table w 32 (node + 1) true count
+  entry-fits k f =
+      let g = fits-entry table w node 32 f k in
+      run-entries (record { type = g .type; is = g .is; deep = omega (arith, g .deep); most = omega arith })
 
 -- ---- what stands in front
 

@@ -72,7 +72,7 @@ fn block(
     )
 }
 
-// The value at a node, on a path of at most `left` nodes from here on.
+// The value at a node. What a record or an array holds stands behind its own node, so that this ends.
 fn value(
     table: &[u8],
     rows: &[u64],
@@ -84,9 +84,8 @@ fn value(
     node: usize,
     i: usize,
     core: usize,
-    left: usize,
 ) -> Step
-    requires { ⌜ (Holds (now pool) (now rows) (now work) i core) × Sized (now table) × FitsNode (now table) (now work) left node ⌝ }
+    requires { ⌜ (Holds (now pool) (now rows) (now work) i core) × Sized (now table) × FitsNode (now table) (now work) 32 node ⌝ }
     ensures { λ r. ⌜ WritesNode how (now (table .entry)) (now (pool .entry)) (now (rows .entry)) (now (out .entry)) (now (work .entry)) core (now (out .exit)) (now (work .exit)) r i node omittable ⌝ }
 {
     let nullable = nodes::kind_at(table, node) == nodes::NULLABLE;
@@ -95,19 +94,7 @@ fn value(
         Opening::Gone(step) => step,
         Opening::Here(labelled) => {
             let own = below(nullable, node);
-            wire(
-                table,
-                rows,
-                pool,
-                out,
-                work,
-                how,
-                labelled,
-                own,
-                i,
-                core,
-                left,
-            )
+            wire(table, rows, pool, out, work, how, labelled, own, i, core)
         }
     }
 }
@@ -124,9 +111,8 @@ fn wire(
     node: usize,
     i: usize,
     core: usize,
-    left: usize,
 ) -> Step
-    requires { ⌜ (Holds (now pool) (now rows) (now work) i core) × Sized (now table) × FitsWire (now table) (now work) left node ⌝ }
+    requires { ⌜ (Holds (now pool) (now rows) (now work) i core) × Sized (now table) × FitsWire (now table) (now work) 32 node ⌝ }
     ensures { λ r. ⌜ WritesWire how (now (table .entry)) (now (pool .entry)) (now (rows .entry)) (now (out .entry)) (now (work .entry)) core (now (out .exit)) (now (work .exit)) r i node labelled ⌝ }
 {
     let kind = nodes::kind_at(table, node);
@@ -134,22 +120,10 @@ fn wire(
         return fit::boolean(rows, pool, out, how.put, i, core);
     }
     if kind == nodes::RECORD {
-        return record(
-            table,
-            rows,
-            pool,
-            out,
-            work,
-            how,
-            labelled,
-            node,
-            i,
-            core,
-            left,
-        );
+        return record(table, rows, pool, out, work, how, labelled, node, i, core);
     }
     if kind == nodes::ARRAY {
-        return array(table, rows, pool, out, work, how, node, i, core, left);
+        return array(table, rows, pool, out, work, how, node, i, core);
     }
     block(table, rows, pool, out, work, how, labelled, node, i, core)
 }
@@ -165,9 +139,8 @@ fn record(
     node: usize,
     i: usize,
     core: usize,
-    left: usize,
 ) -> Step
-    requires { ⌜ (Holds (now pool) (now rows) (now work) i core) × Sized (now table) × FitsWire (now table) (now work) left node × (nodeAt (now table) node .kind ≡ RECORD) ⌝ }
+    requires { ⌜ (Holds (now pool) (now rows) (now work) i core) × Sized (now table) × FitsWire (now table) (now work) 32 node × (nodeAt (now table) node .kind ≡ RECORD) ⌝ }
     ensures { λ r. ⌜ WritesWire how (now (table .entry)) (now (pool .entry)) (now (rows .entry)) (now (out .entry)) (now (work .entry)) core (now (out .exit)) (now (work .exit)) r i node labelled ⌝ }
 {
     let count = nodes::argument_at(table, node);
@@ -179,18 +152,17 @@ fn record(
         return Step::Done(next, end);
     }
     run(
+        node + 1,
+        false,
+        count as u64,
+        next,
+        end,
         table,
         rows,
         pool,
         out,
         work,
         how,
-        node + 1,
-        false,
-        next,
-        end,
-        left - 1,
-        count as u64,
     )
 }
 
@@ -204,9 +176,8 @@ fn array(
     node: usize,
     i: usize,
     core: usize,
-    left: usize,
 ) -> Step
-    requires { ⌜ (Holds (now pool) (now rows) (now work) i core) × Sized (now table) × FitsWire (now table) (now work) left node × (nodeAt (now table) node .kind ≡ ARRAY) ⌝ }
+    requires { ⌜ (Holds (now pool) (now rows) (now work) i core) × Sized (now table) × FitsWire (now table) (now work) 32 node × (nodeAt (now table) node .kind ≡ ARRAY) ⌝ }
     ensures { λ r. ⌜ WritesWire how (now (table .entry)) (now (pool .entry)) (now (rows .entry)) (now (out .entry)) (now (work .entry)) core (now (out .exit)) (now (work .exit)) r i node false ⌝ }
 {
     let Word::Is(count) = row::word_at(rows, pool, kind::ARRAY, i) else {
@@ -218,39 +189,37 @@ fn array(
         return again(r);
     };
     run(
+        node + 1,
+        true,
+        count,
+        next,
+        end,
         table,
         rows,
         pool,
         out,
         work,
         how,
-        node + 1,
-        true,
-        next,
-        end,
-        left - 1,
-        count,
     )
 }
 
 // So many values: entries, which all have the type at `node`, or fields, the first of them at `node`. One loop for both,
-// so that a call is made for what a record or an array holds, and none for each value. A count of entries may be any
-// word: the first row that is missing ends them.
+// so that a call is made for what a record or an array holds, and none for each value. What differs from call to call comes
+// first: it goes in registers. A count of entries may be any word: the first row that is missing ends them.
 fn run(
+    node: usize,
+    repeated: bool,
+    count: u64,
+    i: usize,
+    core: usize,
     table: &[u8],
     rows: &[u64],
     pool: &[u8],
     out: &mut [u8],
     work: &mut [u32],
     how: Pass,
-    node: usize,
-    repeated: bool,
-    i: usize,
-    core: usize,
-    left: usize,
-    count: u64,
 ) -> Step
-    requires { ⌜ (Holds (now pool) (now rows) (now work) i core) × Sized (now table) × FitRun (now table) (now work) left node repeated count ⌝ }
+    requires { ⌜ (Holds (now pool) (now rows) (now work) i core) × Sized (now table) × FitRun (now table) (now work) 32 node repeated count ⌝ }
     ensures { λ r. ⌜ WritesRun how (now (table .entry)) (now (pool .entry)) (now (rows .entry)) (now (out .entry)) (now (work .entry)) core (now (out .exit)) (now (work .exit)) r i node repeated count ⌝ }
 {
     let mut k = count;
@@ -260,19 +229,7 @@ fn run(
     while k != 0 {
         let omittable = typed::may_be_absent(table, at, repeated);
         let after = typed::next_node(work, at, repeated);
-        let r = value(
-            table,
-            rows,
-            pool,
-            out,
-            work,
-            how,
-            omittable,
-            at,
-            n,
-            end,
-            left,
-        );
+        let r = value(table, rows, pool, out, work, how, omittable, at, n, end);
         let Step::Done(next, further) = r else {
             return again(r);
         };
@@ -297,5 +254,5 @@ pub fn root(
     requires { ⌜ (Holds (now pool) (now rows) (now work) 0 core) × Sized (now table) × FitsNode (now table) (now work) 32 0 ⌝ }
     ensures { λ r. ⌜ WritesNode how (now (table .entry)) (now (pool .entry)) (now (rows .entry)) (now (out .entry)) (now (work .entry)) core (now (out .exit)) (now (work .exit)) r 0 0 false ⌝ }
 {
-    run(table, rows, pool, out, work, how, 0, true, 0, core, 32, 1)
+    run(0, true, 1, 0, core, table, rows, pool, out, work, how)
 }

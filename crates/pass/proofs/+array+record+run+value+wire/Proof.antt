@@ -1,18 +1,17 @@
--- The functions of the pass meet their contracts. `left` bounds the path from here on, and falls at each record and array.
+-- The functions of the pass meet their contracts. The nodes that are left fall: what a record or an array holds stands behind its own.
 use borrow.Author.Needs.{needs}
 use native.Mathlib.Omega.{arith}
 use denote.Ref.{now}
 use mathlib.Core.Path.{refl, sym, ap, _∙_, subst}
-use Rattle.pass.proofs.Values.{begins, row-holds, mark-holds, word-there, marks-as, opened-gone, opened-here, own-fits, fields-fit, value-gone, value-here, wire-boolean, wire-array, record-not, record-then, array-none, array-refused, array-then}
+use Rattle.pass.proofs.Values.{begins, row-holds, mark-holds, word-there, marks-as, opened-gone, opened-here, own-fits, own-onward, fields-fit, entry-fits, value-gone, value-here, wire-boolean, wire-array, record-not, record-then, array-none, array-refused, array-then}
 use Rattle.pass.proofs.Runs.{RunAt, run-begin, run-fits, run-not, run-again, run-end, no-fields}
 use lib.Dec.{eqb}
-use Prim.Native.Nat.{_+_, _*_}
+use Prim.Native.Nat.{_+_, _-_, _*_}
 use mir.Syntax.{w64}
 use mir.ValLaws.{toZ-ofZ}
 use Rattle.format.specs.Table.{NULLABLE}
 use Rattle.format.specs.Row.{arrayRow}
-use Rattle.typed.specs.Nodes.{node-inside, wire-inside, block-inside, fits-entry}
-use Rattle.typed.specs.Run.{run-entries, run-fields}
+use Rattle.typed.specs.Nodes.{node-inside, wire-inside, block-inside}
 use Rattle.fit.specs.Judged.{word, Small}
 use Rattle.fit.proofs.Facts.{told}
 use Prim.Native.Nat.{ℕ, _<_}
@@ -50,19 +49,19 @@ use Rattle.pass.proofs.+array+record+run+value+wire.{statement}
 use Rattle.pass.proofs.+array+record+run+value+wire.Tie.{close}
 
 abbrev μ-array : Measures 5 array-kinds.ps ℕ
-μ-array κs a = 5 * a .1 .1 .1 .1 .1 .1 .1 .1 .1 .0 + 1
+μ-array κs a = 4 * (1025 - a .1 .1 .1 .1 .1 .1 .0)
 
 abbrev μ-run : Measures 5 run-kinds.ps ℕ
-μ-run κs a = 5 * a .1 .1 .1 .1 .1 .1 .1 .1 .1 .1 .0 + 4
+μ-run κs a = 4 * (1025 - a .0) + 3
 
 abbrev μ-record : Measures 5 record-kinds.ps ℕ
-μ-record κs a = 5 * a .1 .1 .1 .1 .1 .1 .1 .1 .1 .1 .0 + 1
+μ-record κs a = 4 * (1025 - a .1 .1 .1 .1 .1 .1 .1 .0)
 
 abbrev μ-value : Measures 5 value-kinds.ps ℕ
-μ-value κs a = 5 * a .1 .1 .1 .1 .1 .1 .1 .1 .1 .1 .0 + 3
+μ-value κs a = 4 * (1025 - a .1 .1 .1 .1 .1 .1 .1 .0) + 2
 
 abbrev μ-wire : Measures 5 wire-kinds.ps ℕ
-μ-wire κs a = 5 * a .1 .1 .1 .1 .1 .1 .1 .1 .1 .1 .0 + 2
+μ-wire κs a = 4 * (1025 - a .1 .1 .1 .1 .1 .1 .1 .0) + 1
 
 abbrev array-at : ℕ → In 5 array-kinds.ps
 array-at t = and 5 array-kinds.ps (is 5 array-kinds.ps μ-array t) array.Pre
@@ -156,16 +155,9 @@ array-returns-2 t c =
 
 array-add-run : (t : ℕ) → array-lts.Need-add-run (array-uses t) (array-at t) array.Post
 array-add-run t c =
-    let c19 = c .before .before .before .before .before .before .before .before .before .before .before .before .before .before .before .before .before .before .before in
-    let a = c19 .args in
-    let b = wire-inside (now (a .table)) (now (a .work)) (a .node) (a .left) (c19 .pre .1 .2) (c19 .pre .1 .1) in
-    omega arith
-
-array-sub-run : (t : ℕ) → array-lts.Need-sub-run (array-uses t) (array-at t) array.Post
-array-sub-run t c =
-    let c19 = c .before .before .before .before .before .before .before .before .before .before .before .before .before .before .before .before .before .before .before in
-    let a = c19 .args in
-    let b = wire-inside (now (a .table)) (now (a .work)) (a .node) (a .left) (c19 .pre .1 .2) (c19 .pre .1 .1) in
+    let c17 = c .before .before .before .before .before .before .before .before .before .before .before .before .before .before .before .before .before in
+    let a = c17 .args in
+    let b = wire-inside (now (a .table)) (now (a .work)) (a .node) 32 (c17 .pre .1 .2) (c17 .pre .1 .1) in
     omega arith
 
 array-run-requires : (t : ℕ) → array-lts.Need-run-requires (array-uses t) (array-at t) array.Post
@@ -176,8 +168,8 @@ array-run-requires t c κs =
     let c13 = c11 .before .before in
     let c19 = c13 .before .before .before .before .before .before in
     let a = c19 .args in
-    let b = wire-inside (now (a .table)) (now (a .work)) (a .node) (a .left) (c19 .pre .1 .2) (c19 .pre .1 .1) in
-    (omega (arith, c19 .pre .0), (mark-holds (c19 .pre .1 .0) (word-there (now (a .pool)) (now (a .rows)) (a .i) arrayRow (told word (c13 .word-at .ensures .0) (c11 .count .given .1))) (c7 .mark .ensures) (c3 .r .given .1), (c19 .pre .1 .1), run-entries (fits-entry (now (a .table)) (now (a .work)) (a .node) (a .left) (c19 .pre .1 .2) (c19 .pre .1 .3))))
+    let b = wire-inside (now (a .table)) (now (a .work)) (a .node) 32 (c19 .pre .1 .2) (c19 .pre .1 .1) in
+    (omega (arith, c19 .pre .0, b .1), (mark-holds (c19 .pre .1 .0) (word-there (now (a .pool)) (now (a .rows)) (a .i) arrayRow (told word (c13 .word-at .ensures .0) (c11 .count .given .1))) (c7 .mark .ensures) (c3 .r .given .1), (c19 .pre .1 .1), entry-fits (now (a .table)) (now (a .work)) (a .node) (c19 .pre .1 .3) (c19 .pre .1 .2)))
 
 array-same-length-2 : (t : ℕ) → array-lts.Need-same-length-2 (array-uses t) (array-at t) array.Post
 array-same-length-2 t c = search needs
@@ -198,10 +190,10 @@ array-returns-3 t c =
     array-then (a .how) (now (a .table)) (now (a .pool)) (now (a .rows)) (now (a .out)) (now (a .work)) (a .i) (a .core) (a .node) (c24 .pre .1 .0) (c24 .pre .1 .3) (told word (c18 .word-at .ensures .0) (c16 .count .given .1)) (subst (λ x. Small x) (c16 .count .given .1) (c18 .word-at .ensures .1)) (marks-as (toZ-ofZ w64 _ (record { sfits = c13 .integer-of .ok }) ∙ c13 .integer-of .ensures) (c12 .mark .ensures)) (c8 .r .given .1) (c4 .run .ensures .entries refl)
 
 abbrev run-Inv-loop : run-lts.InvT-loop
-run-Inv-loop table rows pool out₀ work₀ how node repeated i core left count k₀ at₀ n₀ end₀ out work k at n end = RunAt how table pool rows out₀ work₀ node repeated count i core out work k at n end
+run-Inv-loop node repeated count i core table rows pool out₀ work₀ how k₀ at₀ n₀ end₀ out work k at n end = RunAt how table pool rows out₀ work₀ node repeated count i core out work k at n end
 
 abbrev run-μ-loop : run-lts.MeasureT-loop
-run-μ-loop table rows pool out₀ work₀ how node repeated i core left count k₀ at₀ n₀ end₀ out work k at n end = k
+run-μ-loop node repeated count i core table rows pool out₀ work₀ how k₀ at₀ n₀ end₀ out work k at n end = k
 
 run-loop-holds : (t : ℕ) → run-lts.Need-loop-holds (run-uses t) (run-at t) run.Post run-Inv-loop run-μ-loop
 run-loop-holds t c =
@@ -233,7 +225,7 @@ run-value-requires t c κs =
     let c12 = c6 .before .before .before .before .before .before in
     let a = c12 .args in
     let x = c6 .loop in
-    (omega (arith, c12 .pre .0), (x .inv .holds, c12 .pre .1 .1, run-fits (a .how) (now (a .table)) (now (a .pool)) (now (a .rows)) (now (a .out)) (now (a .work)) (a .node) (a .repeated) (a .count) (a .i) (a .core) (x .out) (x .work) (x .k) (x .at) (x .n) (x .end) (x .inv) (c12 .pre .1 .1) (c12 .pre .1 .2) (c5 .loop-test .taken)))
+    (omega (arith, c12 .pre .0, x .inv .onward), (x .inv .holds, c12 .pre .1 .1, run-fits (a .how) (now (a .table)) (now (a .pool)) (now (a .rows)) (now (a .out)) (now (a .work)) (a .node) (a .repeated) (a .count) (a .i) (a .core) (x .out) (x .work) (x .k) (x .at) (x .n) (x .end) (x .inv) (c12 .pre .1 .1) (c12 .pre .1 .2) (c5 .loop-test .taken)))
 
 run-enum-known-r : (t : ℕ) → run-lts.Need-enum-known-r (run-uses t) (run-at t) run.Post run-Inv-loop run-μ-loop
 run-enum-known-r t c = search needs
@@ -305,7 +297,7 @@ record-argument-at-requires : (t : ℕ) → record-lts.Need-argument-at-requires
 record-argument-at-requires t c κs =
     let c5 = c .before .before .before .before .before in
     let a = c5 .args in
-    wire-inside (now (a .table)) (now (a .work)) (a .node) (a .left) (c5 .pre .1 .2) (c5 .pre .1 .1) .2
+    wire-inside (now (a .table)) (now (a .work)) (a .node) 32 (c5 .pre .1 .2) (c5 .pre .1 .1) .2
 
 record-record-requires : (t : ℕ) → record-lts.Need-record-requires (record-uses t) (record-at t) record.Post
 record-record-requires t c κs = begins (c .before .before .before .before .before .before .before .pre .1 .0)
@@ -345,13 +337,8 @@ record-returns-2 t c =
 
 record-add-run : (t : ℕ) → record-lts.Need-add-run (record-uses t) (record-at t) record.Post
 record-add-run t c =
-    let c16 = c .before .before .before .before .before .before .before .before .before .before .before .before .before .before .before .before in
-    omega (arith, wire-inside _ _ _ _ (c16 .pre .1 .2) (c16 .pre .1 .1) .1)
-
-record-sub-run : (t : ℕ) → record-lts.Need-sub-run (record-uses t) (record-at t) record.Post
-record-sub-run t c =
-    let c16 = c .before .before .before .before .before .before .before .before .before .before .before .before .before .before .before .before in
-    omega (arith, wire-inside _ _ _ _ (c16 .pre .1 .2) (c16 .pre .1 .1) .0)
+    let c14 = c .before .before .before .before .before .before .before .before .before .before .before .before .before .before in
+    omega (arith, wire-inside _ _ _ _ (c14 .pre .1 .2) (c14 .pre .1 .1) .1)
 
 record-run-requires : (t : ℕ) → record-lts.Need-run-requires (record-uses t) (record-at t) record.Post
 record-run-requires t c κs =
@@ -360,7 +347,7 @@ record-run-requires t c κs =
     let c10 = c8 .before .before in
     let c16 = c10 .before .before .before .before .before .before in
     let a = c16 .args in
-    (omega (arith, c16 .pre .0, wire-inside _ _ _ _ (c16 .pre .1 .2) (c16 .pre .1 .1) .0), (row-holds (c16 .pre .1 .0) (c8 .«record» .ensures) (c4 .r .given .1), c16 .pre .1 .1, run-fields (fields-fit (now (a .table)) (now (a .work)) (a .left) (a .node) (c16 .pre .1 .3) (c10 .argument-at .ensures .0) (c16 .pre .1 .2))))
+    (omega (arith, c16 .pre .0, wire-inside _ _ _ _ (c16 .pre .1 .2) (c16 .pre .1 .1) .1), (row-holds (c16 .pre .1 .0) (c8 .«record» .ensures) (c4 .r .given .1), c16 .pre .1 .1, fields-fit (now (a .table)) (now (a .work)) (a .node) (c16 .pre .1 .3) (c10 .argument-at .ensures .0) (c16 .pre .1 .2)))
 
 record-same-length-3 : (t : ℕ) → record-lts.Need-same-length-3 (record-uses t) (record-at t) record.Post
 record-same-length-3 t c = search needs
@@ -382,7 +369,7 @@ value-kind-at-requires : (t : ℕ) → value-lts.Need-kind-at-requires (value-us
 value-kind-at-requires t c κs =
     let c5 = c .before .before .before .before .before in
     let a = c5 .args in
-    node-inside (now (a .table)) (now (a .work)) (a .left) (a .node) (c5 .pre .1 .2) (c5 .pre .1 .1) .1
+    node-inside (now (a .table)) (now (a .work)) 32 (a .node) (c5 .pre .1 .2) (c5 .pre .1 .1) .1
 
 value-open-value-requires : (t : ℕ) → value-lts.Need-open-value-requires (value-uses t) (value-at t) value.Post
 value-open-value-requires t c κs = begins (c .before .before .before .before .before .before .before .pre .1 .0)
@@ -397,7 +384,7 @@ value-below-requires : (t : ℕ) → value-lts.Need-below-requires (value-uses t
 value-below-requires t c κs =
     let c13 = c .before .before .before .before .before .before .before .before .before .before .before .before .before in
     let a = c13 .args in
-    node-inside (now (a .table)) (now (a .work)) (a .left) (a .node) (c13 .pre .1 .2) (c13 .pre .1 .1) .0
+    node-inside (now (a .table)) (now (a .work)) 32 (a .node) (c13 .pre .1 .2) (c13 .pre .1 .1) .0
 
 value-wire-requires : (t : ℕ) → value-lts.Need-wire-requires (value-uses t) (value-at t) value.Post
 value-wire-requires t c κs =
@@ -405,7 +392,7 @@ value-wire-requires t c κs =
     let c10 = c2 .before .before .before .before .before .before .before .before in
     let c16 = c10 .before .before .before .before .before .before in
     let a = c16 .args in
-    (omega (arith, c16 .pre .0), ((c16 .pre .1 .0), (c16 .pre .1 .1), own-fits (now (a .table)) (now (a .work)) (a .left) (a .node) (ap (λ k. eqb k NULLABLE) (c10 .kind-at .ensures)) (c2 .below .ensures) (c16 .pre .1 .2)))
+    (omega (arith, c16 .pre .0, own-onward (now (a .table)) (now (a .work)) (a .node) (ap (λ k. eqb k NULLABLE) (c10 .kind-at .ensures)) (c2 .below .ensures)), ((c16 .pre .1 .0), (c16 .pre .1 .1), own-fits (now (a .table)) (now (a .work)) (a .node) (ap (λ k. eqb k NULLABLE) (c10 .kind-at .ensures)) (c2 .below .ensures) (c16 .pre .1 .2)))
 
 value-same-length : (t : ℕ) → value-lts.Need-same-length (value-uses t) (value-at t) value.Post
 value-same-length t c = search needs
@@ -439,7 +426,7 @@ wire-kind-at-requires : (t : ℕ) → wire-lts.Need-kind-at-requires (wire-uses 
 wire-kind-at-requires t c κs =
     let c5 = c .before .before .before .before .before in
     let a = c5 .args in
-    wire-inside (now (a .table)) (now (a .work)) (a .node) (a .left) (c5 .pre .1 .2) (c5 .pre .1 .1) .2
+    wire-inside (now (a .table)) (now (a .work)) (a .node) 32 (c5 .pre .1 .2) (c5 .pre .1 .1) .2
 
 wire-boolean-requires : (t : ℕ) → wire-lts.Need-boolean-requires (wire-uses t) (wire-at t) wire.Post
 wire-boolean-requires t c κs = begins (c .before .before .before .before .before .before .before .before .pre .1 .0)
@@ -504,7 +491,7 @@ wire-block-requires t c κs =
     let c5 = c4 .before in
     let c11 = c5 .before .before .before .before .before .before in
     let a = c11 .args in
-    let b = block-inside (now (a .table)) (now (a .work)) (a .node) (a .left) (c11 .pre .1 .2) (c11 .pre .1 .1) (λ q. c4 .if1 .left (c5 .kind-at .ensures ∙ q)) (λ q. c3 .if2 .left (c5 .kind-at .ensures ∙ q)) (λ q. c2 .if3 .left (c5 .kind-at .ensures ∙ q)) in
+    let b = block-inside (now (a .table)) (now (a .work)) (a .node) 32 (c11 .pre .1 .2) (c11 .pre .1 .1) (λ q. c4 .if1 .left (c5 .kind-at .ensures ∙ q)) (λ q. c3 .if2 .left (c5 .kind-at .ensures ∙ q)) (λ q. c2 .if3 .left (c5 .kind-at .ensures ∙ q)) in
     ((c11 .pre .1 .0), b .0, b .1, b .2)
 
 wire-same-length-6 : (t : ℕ) → wire-lts.Need-same-length-6 (wire-uses t) (wire-at t) wire.Post
@@ -531,7 +518,6 @@ pub +array+record+run+value+wire-spec : {M : Type 1} → statement M
     (array-same-length t)
     (array-returns-2 t)
     (array-add-run t)
-    (array-sub-run t)
     (array-run-requires t)
     (array-same-length-2 t)
     (array-same-length-3 t)
@@ -547,7 +533,6 @@ pub +array+record+run+value+wire-spec : {M : Type 1} → statement M
     (record-same-length-2 t)
     (record-returns-2 t)
     (record-add-run t)
-    (record-sub-run t)
     (record-run-requires t)
     (record-same-length-3 t)
     (record-same-length-4 t)
