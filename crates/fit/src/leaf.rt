@@ -1,6 +1,10 @@
 // The row of a value that a BLOCK holds.
-ghost use mathlib.Core.Bool.{false};
-ghost use Prim.Native.Nat.{_<_};
+ghost use mathlib.Core.Path.{_≡_};
+ghost use mathlib.Core.Bool.{false, _||_};
+ghost use Prim.Native.Nat.{_<_, _≤_};
+ghost use lib.ListN.{length};
+ghost use lib.Seq.{slice};
+ghost use Rattle.format.specs.Utf8.{isText};
 ghost use Rattle.format.specs.Table.{string, varint, float64, bytes, fixed};
 ghost use Rattle.format.specs.Write.{fitLeaf};
 ghost use Rattle.fit.specs.Rest.{restOf};
@@ -16,6 +20,17 @@ use emit::event;
 use emit::text;
 use rows::kind;
 use table::nodes::Leaf;
+
+// Only the pass that counts judges a text: the one that puts comes after it.
+fn passes(pool: &[u8], put: bool, start: usize, end: usize) -> bool
+    requires { ⌜ end ≤ length (now pool) ⌝ }
+    ensures { λ r. ⌜ r ≡ (put || isText (slice start end (now (pool .entry)))) ⌝ }
+{
+    if put {
+        return true;
+    }
+    utf8::is_text(pool, start, end)
+}
 
 fn string(
     rows: &[u64],
@@ -34,7 +49,7 @@ fn string(
     let Part::At(start, size) = row::part_at(rows, pool, kind::STRING, i) else {
         return Step::Refused(42, i as u64);
     };
-    if !utf8::is_text(pool, start, start + size) {
+    if !passes(pool, how.put, start, start + size) {
         return Step::Refused(28, i as u64);
     }
     next(

@@ -29,16 +29,16 @@ returns c =
     let a = c7 .args in
     string-none (c7 .pre .0) (a .key) (told part (c2 .part-at .ensures .0) (c .enum-told .given .1))
 
-add-is-text : tie.Need-add-is-text
-add-is-text c =
+add-passes : tie.Need-add-passes
+add-passes c =
     let c3 = c .before .before .before in
     let c8 = c3 .before .before .before .before .before in
     let a = c8 .args in
     let l : _ ≤ _ = (subst (λ x. Inside (length (now (a .pool))) x) (c .before .start .given .1) (c3 .part-at .ensures .1)) in
     omega arith
 
-is-text-requires : tie.Need-is-text-requires
-is-text-requires c κs =
+passes-requires : tie.Need-passes-requires
+passes-requires c κs =
     let c3 = c .before .before .before in
     let c8 = c3 .before .before .before .before .before in
     let a = c8 .args in
@@ -50,7 +50,7 @@ returns-2 c =
     let c5 = c3 .before .before in
     let c10 = c5 .before .before .before .before .before in
     let a = c10 .args in
-    string-28 (c10 .pre .0) (a .key) _ (subst (λ x. Inside (length (now (a .pool))) x) (c3 .start .given .1) (c5 .part-at .ensures .1)) (told part (c5 .part-at .ensures .0) (c3 .start .given .1)) (part-text (now (a .pool)) (c3 .start .given .0 .0) (c3 .start .given .0 .1 .0) (c .before .is-text .ensures) ∙ not-true _ (c .if1 .taken))
+    string-28 (c10 .pre .0) (a .key) _ (subst (λ x. Inside (length (now (a .pool))) x) (c3 .start .given .1) (c5 .part-at .ensures .1)) (told part (c5 .part-at .ensures .0) (c3 .start .given .1)) (part-text (a .how .put) (now (a .pool)) (c3 .start .given .0 .0) (c3 .start .given .0 .1 .0) (c .before .passes .ensures) ∙ not-true _ (c .if1 .taken))
 
 emit-text-requires : tie.Need-emit-text-requires
 emit-text-requires c κs =
@@ -80,7 +80,7 @@ returns-3 c =
     let c13 = c11 .before .before in
     let c18 = c13 .before .before .before .before .before in
     let a = c18 .args in
-    string-some (c18 .pre .0) (a .key) _ (subst (λ x. Inside (length (now (a .pool))) x) (c11 .start .given .1) (c13 .part-at .ensures .1)) (told part (c13 .part-at .ensures .0) (c11 .start .given .1)) (part-text (now (a .pool)) (c11 .start .given .0 .0) (c11 .start .given .0 .1 .0) (c9 .is-text .ensures) ∙ not-false _ (c8 .if1 .left)) (c5 .emit-text .ensures) (c .next .ensures)
+    string-some (c18 .pre .0) (a .key) _ (subst (λ x. Inside (length (now (a .pool))) x) (c11 .start .given .1) (c13 .part-at .ensures .1)) (told part (c13 .part-at .ensures .0) (c11 .start .given .1)) (c5 .emit-text .ensures) (c .next .ensures) (part-text (a .how .put) (now (a .pool)) (c11 .start .given .0 .0) (c11 .start .given .0 .1 .0) (c9 .passes .ensures) ∙ not-false _ (c8 .if1 .left))
 
 pub string-spec : {M : Type 1} → statement M
 string-spec =
@@ -90,8 +90,8 @@ string-spec =
     enum-known-start
     enum-told
     returns
-    add-is-text
-    is-text-requires
+    add-passes
+    passes-requires
     returns-2
     emit-text-requires
     next-requires
