@@ -1,5 +1,5 @@
 -- What the C interface answers of a row: words of their own in place of an enum, and a place in place of a part of the lent bytes.
-use mathlib.Core.Path.{_≡_, refl}
+use mathlib.Core.Path.{_≡_}
 use mathlib.Core.Bool.{cond}
 use mathlib.Core.List.{List, [], _∷_}
 use Prim.Native.Nat.{ℕ, _+_, _≤_}

@@ -3,7 +3,7 @@ ghost use mathlib.Core.Path.{_≡_};
 ghost use Prim.Native.Nat.{_-_, _<_, _≤_};
 ghost use lib.ListN.{length};
 ghost use Rattle.format.specs.Label.{within64};
-ghost use Rattle.label.specs.Cursor.{varintAt, labelAt, answer, cursor, upTo, LastByte};
+ghost use Rattle.label.specs.Cursor.{varintAt, labelAt, answer, upTo, LastByte};
 ghost use Rattle.label.specs.declared.cursor.Varint.the-variants.{Number, Broken};
 use super::words;
 
@@ -25,12 +25,6 @@ pub enum Label {
 }
 
 impl Cursor {
-    pub fn new(at: usize, end: usize) -> Cursor
-        ensures { λ r. ⌜ r ≡ cursor at end ⌝ }
-    {
-        Cursor { at, end }
-    }
-
     // How many bytes are left before the end.
     pub fn left(self) -> usize
         ensures { λ r. ⌜ r ≡ self .end - self .at ⌝ }

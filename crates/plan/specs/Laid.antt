@@ -2,24 +2,20 @@
 use mathlib.Core.Path.{_≡_, refl, sym, _∙_, ap}
 use mathlib.Core.Bool.{Bool, true, false}
 use mathlib.Core.List.{List, [], _∷_, _++_, append-assoc}
-use mathlib.Core.Option.{none}
 use Prim.Native.Nat.{ℕ, _+_, _-_, _≤_, _<_}
-use native.Mathlib.Nat.{add-assoc, add-zero}
 use native.Mathlib.Omega.{arith}
 use lib.IntN.{pos}
 use lib.ListN.{length, length-append, length-set, set, take, drop}
 use lib.Seq.{sets, sets-eq, length-sets, length-take-le, take-append-seam, drop-at, drop-set-add, drop-set-lt, take-set-le}
-use Rattle.format.specs.Label.{label, labelSize}
+use Rattle.format.specs.Label.{label}
 use Rattle.format.specs.Modes.{inlineEverything, header}
 use Rattle.format.specs.Table.{Held}
 use Rattle.format.specs.Write.{Event, Draft, blockPieces, pieceBytes, messageOf}
 use Rattle.label.specs.Laws.{framed}
-use Rattle.store.specs.Store.{lookup, put}
 use Rattle.theory.specs.Start.{draft}
 use Rattle.theory.specs.Lock.{inline-blocks}
-use Rattle.plan.specs.Plan.{blank}
 use Rattle.plan.specs.Layout.{blockSpace, coreLabel, starts, coreStart, messageLength, putLabels, layOut, Shows, Labelled, LaidOut, placed}
-use Rattle.plan.specs.Slots.{under, lookup-nil, lookup-behind, missing, most, Apart, apart-middle, put-middle}
+use Rattle.plan.specs.Slots.{under, most}
 use Rattle.plan.specs.Moves.{Within}
 
 -- The message in either mode: in InlineEverything there are no blocks.
@@ -132,39 +128,7 @@ pub laid-length : (modes core : ℕ) (slots : List (ℕ × ℕ)) (out : List ℕ
 unfolding layOut
 laid-length modes core slots out = length-sets _ (1 + blockSpace slots) (coreLabel (inlineEverything modes) core) ∙ (length-labels slots 1 _ ∙ length-set out 0 (header modes))
 
--- One slot after another: what a loop over the slots has done, and what one more turn does.
-
-pub space-append : (us vs : List (ℕ × ℕ)) → blockSpace (us ++ vs) ≡ blockSpace us + blockSpace vs
-unfolding blockSpace
-space-append [] vs = omega arith
-space-append (u ∷ us) vs = omega (arith, space-append us vs)
-
-pub labels-append : (us vs : List (ℕ × ℕ)) (at : ℕ) (out : List ℕ) → putLabels at (us ++ vs) out ≡ putLabels (at + blockSpace us) vs (putLabels at us out)
-unfolding putLabels blockSpace
-labels-append [] vs at out = rw add-zero
-labels-append (u ∷ us) vs at out = labels-append us vs (at + framed (u .1)) _ ∙ rw (add-assoc at (framed (u .1)) (blockSpace us))
-
-pub starts-append : (us vs : List (ℕ × ℕ)) (at : ℕ) → starts at (us ++ vs) ≡ starts at us ++ starts (at + blockSpace us) vs
-unfolding starts blockSpace
-starts-append [] vs at = rw add-zero
-starts-append (u ∷ us) vs at = ap (λ xs. (u .0, at + labelSize (pos (u .1))) ∷ xs) (starts-append us vs (at + framed (u .1)) ∙ rw (add-assoc at (framed (u .1)) (blockSpace us)))
-
-starts-none : (k : ℕ) (xs : List (ℕ × ℕ)) (at : ℕ) → lookup k xs ≡ none → lookup k (starts at xs) ≡ none
-unfolding starts
-starts-none k [] at e = lookup-nil k
-starts-none k (x ∷ xs) at e = missing k x xs e λ t q. lookup-behind k (x .0, at + labelSize (pos (x .1))) _ t ∙ starts-none k xs (at + framed (x .1)) q
-
-pub label-next : (us : List (ℕ × ℕ)) (x : ℕ × ℕ) (at : ℕ) (out : List ℕ) → putLabels at (us ++ x ∷ []) out ≡ sets (putLabels at us out) (at + blockSpace us) (label (pos (x .1)))
-unfolding putLabels
-label-next us x at out = labels-append us (x ∷ []) at out
-
-pub start-next : (us vs : List (ℕ × ℕ)) (x : ℕ × ℕ) (at : ℕ) → Apart (us ++ x ∷ vs)
-    → put (x .0) (at + blockSpace us + labelSize (pos (x .1))) (starts at us ++ x ∷ vs) ≡ starts at (us ++ x ∷ []) ++ vs
-unfolding starts
-start-next us vs x at a =
-    put-middle (x .0) _ (x .1) (starts at us) vs (starts-none (x .0) us at (apart-middle x us vs a)) ∙ sym (ap (λ xs. xs ++ vs) (starts-append us (x ∷ []) at) ∙ append-assoc (starts at us) _ vs)
-
--- How far the places go at first: what `Within` starts from in either pass.
+-- How far the places go at first: what `Within` starts from in the second pass.
 
 starts-most : (xs : List (ℕ × ℕ)) (at : ℕ) → most (starts at xs) ≤ at + blockSpace xs
 unfolding most starts blockSpace
@@ -174,7 +138,3 @@ starts-most (x ∷ xs) at = omega (arith, starts-most xs (at + framed (x .1)))
 pub within-placed : (modes core : ℕ) (slots : List (ℕ × ℕ)) (out : List ℕ) → Within (messageLength (inlineEverything modes) core slots) (placed modes core slots out)
 unfolding messageLength coreStart
 within-placed modes core slots out = record { core = omega arith; slots = omega (arith, starts-most slots 1) }
-
-pub within-blank : (out : List ℕ) → Within 0 (blank out)
-unfolding most
-within-blank out = record { core = omega arith; slots = omega arith }

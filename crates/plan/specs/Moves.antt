@@ -3,7 +3,7 @@ use mathlib.Core.Path.{_≡_, refl, sym, _∙_}
 use mathlib.Core.Bool.{Bool, true, false}
 use mathlib.Core.List.{List, [], _∷_, _++_}
 use mathlib.Core.Option.{Option, none, some}
-use Prim.Native.Nat.{ℕ, _+_, _*_, _≤_}
+use Prim.Native.Nat.{ℕ, _+_, _≤_}
 use native.Mathlib.Omega.{arith}
 use lib.IntN.{ℤ, pos}
 use lib.ListN.{length}
@@ -159,23 +159,10 @@ module _ (put : Bool) (modes : ℕ) (held : ℕ → Held) where
   events-move [] p = fine (moves-not put p)
   events-move (e ∷ es) p = step-then put (20 + bodySize (e .body)) (mostBytes es) p _ _ (event-moves e p) (λ q. events-move es q)
 
--- No value is longer than the pool: «pool over 65,536 bytes»
-unfoldable pub Short : List Event → Type 0
-Short [] = Unit {0}
-Short (e ∷ es) = (bodySize (e .body) ≤ 65536) × Short es
-
-pub short-bytes : (es : List Event) → Short es → mostBytes es ≤ 65556 * length es
-unfolding Short mostBytes
-short-bytes [] s = omega arith
-short-bytes (e ∷ es) s = omega (arith, s .0, short-bytes es (s .1))
-
 -- Each row goes at most 65,556 bytes further, counting or writing.
 module _ (put : Bool) (modes : ℕ) (held : ℕ → Held) where
   pub within-event : (e : Event) (m : ℕ) (p q : Plan) → bodySize (e .body) ≤ 65536 → Within m p → emitEvent put modes held e p ≡ ok q → Within (m + 65556) q
   within-event e m p q l w h = within-moves put m 65556 p q w (moves-more put _ 65556 p q (omega arith) (fine-is put _ _ q (event-moves put modes held e p) h))
-
-  pub within-events : (es : List Event) (m : ℕ) (p q : Plan) → Short es → Within m p → emitEvents put modes held es p ≡ ok q → Within (m + 65556 * length es) q
-  within-events es m p q s w h = within-moves put m _ p q w (moves-more put _ _ p q (short-bytes es s) (fine-is put _ _ q (events-move put modes held es p) h))
 
   pub events-apart : (es : List Event) (p q : Plan) → Apart (p .slots) → emitEvents put modes held es p ≡ ok q → Apart (q .slots)
   events-apart es p q a h = fine-is put _ _ q (events-move put modes held es p) h .apart a

@@ -1,9 +1,9 @@
 -- Laws of the store for its callers: what stands under a key, the format's steps at a key's block in these terms, and the store of zeros.
-use mathlib.Core.Path.{_≡_, refl, sym, ap, _∙_, subst}
+use mathlib.Core.Path.{_≡_, refl, sym, ap, _∙_}
 use mathlib.Core.Bool.{Bool, true, false, cond}
 use mathlib.Core.List.{List, [], _∷_, _++_}
 use mathlib.Core.Option.{Option, none, some, Option·some-injective}
-use Prim.Native.Nat.{ℕ, zero, suc, _+_, _<_, _≤_, _^_, min}
+use Prim.Native.Nat.{ℕ, zero, suc, _+_, _<_, _≤_, min}
 use native.Mathlib.Omega.{arith}
 use lib.Dec.{eqb}
 use lib.ListN.{length, drop}
@@ -12,9 +12,9 @@ use Rattle.format.specs.Answer.{Answer, ok, refuse, _>>=_}
 use Rattle.format.specs.Row.{Place}
 use Rattle.format.specs.Read.{Source, Reading, atBlock, nth, noLiterals}
 use Rattle.format.specs.Write.{addBytes}
-use Rattle.store.specs.Lists.{upto, sumTo, upto-length, upto-ext, upto-replicate, sum-ext}
+use Rattle.store.specs.Lists.{upto, sumTo, upto-ext, upto-replicate, sum-ext}
 use Rattle.store.specs.Store.{empty, lookup, change, put, moveTo}
-use Rattle.store.specs.Meaning.{slot, Small}
+use Rattle.store.specs.Meaning.{slot}
 use Rattle.store.specs.declared.Slot.{Slot}
 use Rattle.store.specs.declared.Slot.the-variants.{At, Untouched}
 use Rattle.store.specs.Words.{word, slotCount, indexOf, slotsOf, countOf, pages, literalsOf, storeOf, GoodLiterals, Good}
@@ -127,9 +127,6 @@ module _ {r : Slot} {o : Option Reading} (e : slot r ≡ o) where
   pub is-some : {a b : ℕ} → r ≡ At a b → o ≡ some (record { at = a; end = b })
   is-some q = sym e ∙ ap (λ (s : Slot). slot s) q
 
-pub is-small : {r : Slot} {a b : ℕ} → Small r → r ≡ At a b → (a < 2 ^ 32) × (b < 2 ^ 32)
-is-small h q = subst (λ (s : Slot). Small s) q h
-
 -- ---- the j-th of a list
 
 module _ {X : Type 0} where
@@ -146,10 +143,6 @@ module _ {X : Type 0} where
   drop-nth (y ∷ ys) (suc j) e = drop-nth ys j e
 
 -- ---- the literals of each key, and the store of zeros
-
-pub all-keys : (w : List ℕ) → length (storeOf w .literals) ≡ 32
-unfolding storeOf
-all-keys w = upto-length (λ k. literalsOf w k) 32
 
 module _ (w : List ℕ) (z : (i : ℕ) → 1155 ≤ i → i < 1216 → word w i ≡ 0) where
   no-literal : (k : ℕ) → k < 32 → countOf w k ≡ 0
@@ -204,9 +197,3 @@ module _ (w : List ℕ) (whole : 16384 ≤ length w) (z : (i : ℕ) → 1120 ≤
   pub store-empty : storeOf w ≡ empty
   unfolding storeOf slotsOf upto
   store-empty = rw (z 1152 (omega arith) (omega arith), z 1153 (omega arith) (omega arith), z 1154 (omega arith) (omega arith), literals-none w above)
-
--- A work that is zero above the caller's words is an empty store as it stands.
-pub good-zeros : (w : List ℕ) → 16384 ≤ length w → ((i : ℕ) → 1024 ≤ i → i < 16384 → word w i ≡ 0) → Good w × (storeOf w ≡ empty)
-good-zeros w h z =
-    let z₁ : (i : ℕ) → 1120 ≤ i → i < 1216 → word w i ≡ 0 = λ i a b. z i (omega arith) (omega arith) in
-    (good-empty w h z₁, store-empty w h z₁)
