@@ -100,7 +100,7 @@ fn answer_of(r: Step) -> Answer
 
 // For a table that was checked, with the work as the check has kept it. Where the message is read, the work is right
 // for another one.
-pub fn read_checked(table: &[u8], message: &[u8], rows: &mut [u64], work: &mut [u32]) -> Answer
+fn read_checked(table: &[u8], message: &[u8], rows: &mut [u64], work: &mut [u32]) -> Answer
     requires { ⌜ Kept (now table) (now work) ⌝ }
     ensures { λ r. ⌜ r .number ≡ number (rowsOf (now (table .entry)) (now (message .entry)) (length (now (rows .entry)))) ⌝ }
     ensures { λ r. ⌜ r .second ≡ second (λ rs. length rs) (rowsOf (now (table .entry)) (now (message .entry)) (length (now (rows .entry)))) ⌝ }

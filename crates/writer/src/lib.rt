@@ -25,7 +25,7 @@ const MOST_ROWS: usize = 8192;
 const MOST_BYTES: usize = 65536;
 
 // So many bytes; or a refusal's number and second number.
-pub enum Size {
+enum Size {
     Bytes(usize),
     Refused(u64, u64),
 }
@@ -154,7 +154,7 @@ fn message(
 }
 
 // For a table that was checked, with the work as the check has kept it.
-pub fn write_checked(
+fn write_checked(
     table: &[u8],
     modes: u64,
     rows: &[u64],
