@@ -152,11 +152,11 @@ fn record(
         return Step::Done(next, end);
     }
     run(
-        node + 1,
-        false,
-        count as u64,
         next,
         end,
+        node + 1,
+        count as u64,
+        false,
         table,
         rows,
         pool,
@@ -189,11 +189,11 @@ fn array(
         return again(r);
     };
     run(
-        node + 1,
-        true,
-        count,
         next,
         end,
+        node + 1,
+        count,
+        true,
         table,
         rows,
         pool,
@@ -207,11 +207,11 @@ fn array(
 // so that a call is made for what a record or an array holds, and none for each value. What differs from call to call comes
 // first: it goes in registers. A count of entries may be any word: the first row that is missing ends them.
 fn run(
-    node: usize,
-    repeated: bool,
-    count: u64,
     i: usize,
     core: usize,
+    node: usize,
+    count: u64,
+    repeated: bool,
     table: &[u8],
     rows: &[u64],
     pool: &[u8],
@@ -254,5 +254,5 @@ pub fn root(
     requires { ⌜ (Holds (now pool) (now rows) (now work) 0 core) × Sized (now table) × FitsNode (now table) (now work) 32 0 ⌝ }
     ensures { λ r. ⌜ WritesNode how (now (table .entry)) (now (pool .entry)) (now (rows .entry)) (now (out .entry)) (now (work .entry)) core (now (out .exit)) (now (work .exit)) r 0 0 false ⌝ }
 {
-    run(0, true, 1, 0, core, table, rows, pool, out, work, how)
+    run(0, core, 0, 1, true, table, rows, pool, out, work, how)
 }

@@ -52,7 +52,7 @@ abbrev μ-array : Measures 5 array-kinds.ps ℕ
 μ-array κs a = 4 * (1025 - a .1 .1 .1 .1 .1 .1 .0)
 
 abbrev μ-run : Measures 5 run-kinds.ps ℕ
-μ-run κs a = 4 * (1025 - a .0) + 3
+μ-run κs a = 4 * (1025 - a .1 .1 .0) + 3
 
 abbrev μ-record : Measures 5 record-kinds.ps ℕ
 μ-record κs a = 4 * (1025 - a .1 .1 .1 .1 .1 .1 .1 .0)
@@ -190,10 +190,10 @@ array-returns-3 t c =
     array-then (a .how) (now (a .table)) (now (a .pool)) (now (a .rows)) (now (a .out)) (now (a .work)) (a .i) (a .core) (a .node) (c24 .pre .1 .0) (c24 .pre .1 .3) (told word (c18 .word-at .ensures .0) (c16 .count .given .1)) (subst (λ x. Small x) (c16 .count .given .1) (c18 .word-at .ensures .1)) (marks-as (toZ-ofZ w64 _ (record { sfits = c13 .integer-of .ok }) ∙ c13 .integer-of .ensures) (c12 .mark .ensures)) (c8 .r .given .1) (c4 .run .ensures .entries refl)
 
 abbrev run-Inv-loop : run-lts.InvT-loop
-run-Inv-loop node repeated count i core table rows pool out₀ work₀ how k₀ at₀ n₀ end₀ out work k at n end = RunAt how table pool rows out₀ work₀ node repeated count i core out work k at n end
+run-Inv-loop i core node count repeated table rows pool out₀ work₀ how k₀ at₀ n₀ end₀ out work k at n end = RunAt how table pool rows out₀ work₀ node repeated count i core out work k at n end
 
 abbrev run-μ-loop : run-lts.MeasureT-loop
-run-μ-loop node repeated count i core table rows pool out₀ work₀ how k₀ at₀ n₀ end₀ out work k at n end = k
+run-μ-loop i core node count repeated table rows pool out₀ work₀ how k₀ at₀ n₀ end₀ out work k at n end = k
 
 run-loop-holds : (t : ℕ) → run-lts.Need-loop-holds (run-uses t) (run-at t) run.Post run-Inv-loop run-μ-loop
 run-loop-holds t c =
