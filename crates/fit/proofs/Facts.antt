@@ -17,7 +17,7 @@ use Rattle.format.specs.Table.{string, varint, float64, bytes, fixed}
 use Rattle.format.specs.Row.{Place, Text, bytesAt, rowCount, integerRow, floatRow, stringRow, bytesRow, fixedRow, recordRow}
 use Rattle.format.specs.Write.{Event, Rest, nothing, text, value, mark, unlabelled, littleEndianBytes, fitLeaf}
 use Rattle.laws.specs.Lists.{little-length}
-use Rattle.laws.specs.Facts.{or-false}
+use Rattle.laws.specs.Facts.{or-false, by-bool}
 use Rattle.label.specs.Laws.{label-most}
 use Rattle.plan.specs.Plan.{emitFront, emitBody, emitEvent, emitEvents}
 use Rattle.plan.specs.Moves.{bodySize}
@@ -26,7 +26,6 @@ use Rattle.emit.specs.State.{planOf, Within, EmitsEvent, Puts}
 use Rattle.emit.specs.Text.{EmitsText}
 use Rattle.emit.specs.Does.{mark-emits}
 use Rattle.table.specs.declared.nodes.Leaf as code
-use Rattle.typed.specs.Run.{by-either}
 use Rattle.fit.specs.declared.Step.{Step}
 use Rattle.fit.specs.declared.Step.the-variants.{Done, Refused}
 use Rattle.fit.specs.declared.Pass.{Pass}
@@ -190,7 +189,7 @@ module _ {how : Pass} {pool rows out w out′ w′ : List ℕ} {i core : ℕ} (h
         string-put y z = record { writes = λ modes held a b. along (string-stray pool rows i k false e z) (puts-any 28 i y (text-writes p (place-there pool rows i stringRow e) l d q refl .writes modes held a b)) }
 
         pub string-some : (how .put || isText (bytesAt pool p)) ≡ true → WritesText how numbered k pool rows out w core out′ w′ r (fitLeaf k string false (restOf pool rows i))
-        string-some z = by-either (isText (bytesAt pool p)) string-text (λ y. string-put (or-of (how .put) y z) y)
+        string-some z = by-bool (isText (bytesAt pool p)) string-text (λ y. string-put (or-of (how .put) y z) y)
 
       pub bytes-some : {s : emitted.Step} {r : Step} → placeIn bytesRow (looked pool rows i) ≡ some p → Texts how numbered k pool out w out′ w′ core s p → r ≡ nextStep i s
           → WritesText how numbered k pool rows out w core out′ w′ r (fitLeaf k bytes false (restOf pool rows i))

@@ -8,8 +8,9 @@ use lib.ListN.{length}
 use Rattle.format.specs.Answer.{Answer, ok, refuse, _>>=_}
 use Rattle.format.specs.Table.{nodeAt}
 use Rattle.format.specs.Write.{Event, Rest, Fit, fitEntries}
+use Rattle.laws.specs.Facts.{by-bool}
 use Rattle.typed.specs.Typed.{Sized, FitsNode}
-use Rattle.typed.specs.Run.{FitRun, absentIn, nextIn, by-either}
+use Rattle.typed.specs.Run.{FitRun, absentIn, nextIn}
 use Rattle.fit.specs.declared.Step.{Step}
 use Rattle.fit.specs.declared.Step.the-variants.{Done, Refused}
 use Rattle.fit.specs.declared.Pass.{Pass}
@@ -42,7 +43,7 @@ module _ (how : Pass) (table pool rows out₀ w₀ : List ℕ) (node₀ : ℕ) (
   module _ (out w : List ℕ) (k node i core : ℕ) (x : RunAt how table pool rows out₀ w₀ node₀ repeated count i₀ core₀ out w k node i core) (whole : Sized table) where
     pub run-fits : {left : ℕ} → FitRun table w₀ left node₀ repeated count → (k ≡ 0 → ⊥) → FitsNode table w left node
     run-fits {left} g z =
-        by-either repeated
+        by-bool repeated
         (λ e. subst (λ j. FitsNode table w left j) (sym (x .stays e)) (entries-fits how table pool rows out₀ w₀ node₀ count i₀ core₀ out w k i core (x .entries e) whole (g .entries e)))
         (λ e. fields-fits how table pool rows out₀ w₀ node₀ count i₀ core₀ out w k node i core (x .fields e) whole (g .fields e) z)
 
@@ -69,8 +70,8 @@ module _ (how : Pass) (table pool rows out₀ w₀ : List ℕ) (node₀ : ℕ) (
           record {
             lent = e₁ ∙ x .lent;
             worked = e₂ ∙ x .worked;
-            holds = by-either repeated (λ e. es e .holds) (λ e. fs e .holds);
-            onward = by-either repeated (λ e. omega (arith, next-is true e ∙ x .stays e)) (λ e. fs e .onward);
+            holds = by-bool repeated (λ e. es e .holds) (λ e. fs e .holds);
+            onward = by-bool repeated (λ e. omega (arith, next-is true e ∙ x .stays e)) (λ e. fs e .onward);
             stays = λ e. next-is true e ∙ x .stays e;
             entries = es;
             fields = fs;

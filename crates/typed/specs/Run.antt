@@ -1,11 +1,11 @@
 -- A run of values that a walk goes over by one loop: entries, which all have the type at one node, or fields, each behind
 -- the one before it.
-use mathlib.Core.Path.{_≡_, refl, sym}
+use mathlib.Core.Path.{_≡_, sym}
 use mathlib.Core.Bool.{Bool, true, false, cond}
 use mathlib.Core.List.{List}
 use Prim.Native.Nat.{ℕ}
-use native.Mathlib.Omega.{arith}
 use Rattle.format.specs.Table.{TableNode, omittable}
+use Rattle.laws.specs.Facts.{absurd-bool}
 use Rattle.store.specs.Words.{word}
 use Rattle.typed.specs.Typed.{FitsNode, FitFields}
 
@@ -20,17 +20,9 @@ absentIn repeated x = cond repeated false (omittable x)
 abbrev pub nextIn : Bool → ℕ → List ℕ → ℕ
 nextIn repeated node work = cond repeated node (word work node)
 
--- by which of the two it is
-pub by-either : {X : Type 0} (b : Bool) → (b ≡ true → X) → (b ≡ false → X) → X
-by-either true f g = f refl
-by-either false f g = g refl
-
-true-not : true ≡ false → ⊥
-true-not e = let y : _≡_ {A = ℕ} 0 1 = cc in omega arith
-
 module _ {table work : List ℕ} {left node count : ℕ} where
   pub run-entries : FitsNode table work left node → FitRun table work left node true count
-  run-entries f = record { entries = λ e. f; fields = λ e. absurd (true-not e) }
+  run-entries f = record { entries = λ e. f; fields = λ e. absurd-bool (sym e) }
 
   pub run-fields : FitFields table work left node count → FitRun table work left node false count
-  run-fields f = record { entries = λ e. absurd (true-not (sym e)); fields = λ e. f }
+  run-fields f = record { entries = λ e. absurd-bool e; fields = λ e. f }

@@ -8,6 +8,7 @@ use Rattle.format.specs.Answer.{Answer, ok, refuse, _>>=_}
 use Rattle.format.specs.Table.{nodeAt}
 use Rattle.format.specs.Row.{Place, Row}
 use Rattle.format.specs.Read.{inMessage, State, Read, entries}
+use Rattle.laws.specs.Facts.{by-bool}
 use Rattle.label.specs.declared.cursor.Cursor.{Cursor}
 use Rattle.pieces.specs.Pieces.{Inside}
 use Rattle.leaf.specs.declared.Step.{Step}
@@ -15,7 +16,7 @@ use Rattle.leaf.specs.declared.Step.the-variants.{Done, Refused}
 use Rattle.leaf.specs.State.{Ready}
 use Rattle.leaf.specs.Does.{along}
 use Rattle.typed.specs.Typed.{Sized, FitsNode}
-use Rattle.typed.specs.Run.{FitRun, absentIn, nextIn, by-either}
+use Rattle.typed.specs.Run.{FitRun, absentIn, nextIn}
 use Rattle.walk.specs.Walk.{ReadsValue, ReadsFields, ReadsRun}
 use Rattle.walk.proofs.Loops.{EntriesAt, entries-begin, entries-fits, entries-not, entries-again, entries-end, FieldsAt, fields-begin, fields-fits, fields-not, fields-again, fields-end}
 
@@ -43,7 +44,7 @@ module _ (table m w₀ l₀ : List ℕ) (modes node₀ : ℕ) (repeated : Bool) 
   module _ (w l : List ℕ) (k node : ℕ) (c : Cursor) (n : ℕ) (x : RunAt table m w₀ l₀ modes node₀ repeated count c₀ n₀ w l k node c n) (whole : Sized table) where
     pub run-fits : {left : ℕ} → FitRun table w₀ left node₀ repeated count → (k ≡ 0 → ⊥) → FitsNode table w left node
     run-fits {left} g z =
-        by-either repeated
+        by-bool repeated
         (λ e. subst (λ i. FitsNode table w left i) (sym (x .stays e)) (entries-fits table m w₀ l₀ modes node₀ count c₀ n₀ w l k c n (x .entries e) whole (g .entries e)))
         (λ e. fields-fits table m w₀ l₀ modes node₀ count c₀ n₀ w l k node c n (x .fields e) whole (g .fields e) z)
 
@@ -70,8 +71,8 @@ module _ (table m w₀ l₀ : List ℕ) (modes node₀ : ℕ) (repeated : Bool) 
           record {
             lent = e₁ ∙ x .lent;
             worked = e₂ ∙ x .worked;
-            ready = by-either repeated (λ e. es e .ready) (λ e. fs e .ready);
-            inside = by-either repeated (λ e. es e .inside) (λ e. fs e .inside);
+            ready = by-bool repeated (λ e. es e .ready) (λ e. fs e .ready);
+            inside = by-bool repeated (λ e. es e .inside) (λ e. fs e .inside);
             stays = λ e. next-is true e ∙ x .stays e;
             entries = es;
             fields = fs;
