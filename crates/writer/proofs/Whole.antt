@@ -32,7 +32,7 @@ use Rattle.writer.proofs.Second.{totals}
 
 -- ---- the small tests
 
-pub allowed-is : (modes : ℕ) → eqb modes (modes % 2 + (modes / 4 % 2 * 4 + modes / 32 % 2 * 32)) ≡ areAllowed modes
+allowed-is : (modes : ℕ) → eqb modes (modes % 2 + (modes / 4 % 2 * 4 + modes / 32 % 2 * 32)) ≡ areAllowed modes
 unfolding areAllowed among
 allowed-is modes = let e : modes % 2 + (modes / 4 % 2 * 4 + modes / 32 % 2 * 32) ≡ modes / 1 % 2 * 1 + (modes / 4 % 2 * 4 + (modes / 32 % 2 * 32 + 0)) = omega arith in rw e
 

@@ -3,7 +3,7 @@ ghost use mathlib.Core.Path.{_≡_};
 ghost use Prim.Native.Nat.{_+_, _≤_, _<_, _^_};
 ghost use lib.ListN.{length};
 ghost use Rattle.format.specs.Answer.{number, second, output, zeros};
-ghost use Rattle.format.specs.Modes.{areAllowed, inlineEverything};
+ghost use Rattle.format.specs.Modes.{inlineEverything};
 ghost use Rattle.format.specs.Row.{rowCount};
 ghost use Rattle.format.specs.Write.{areWhole, write as writeOf};
 ghost use Rattle.store.specs.Words.{Good};
@@ -28,13 +28,6 @@ const MOST_BYTES: usize = 65536;
 enum Size {
     Bytes(usize),
     Refused(u64, u64),
-}
-
-// Only modes 0, 2 and 5.
-fn are_allowed(modes: u64) -> bool
-    ensures { λ r. ⌜ r ≡ areAllowed modes ⌝ }
-{
-    modes == modes % 2 + (modes / 4 % 2 * 4 + modes / 32 % 2 * 32)
 }
 
 fn are_whole(rows: &[u64], pool: &[u8]) -> bool
@@ -135,7 +128,7 @@ fn message(
     requires { ⌜ Kept (now table) (now work) ⌝ }
     ensures { λ r. ⌜ Makes (now (out .exit)) r (messageIn (now (table .entry)) modes (now (rows .entry)) (now (pool .entry)) (length (now (out .entry)))) ⌝ }
 {
-    if !are_allowed(modes) {
+    if !pieces::are_allowed(modes) {
         return Size::Refused(40, 0);
     }
     if !are_whole(rows, pool) {
