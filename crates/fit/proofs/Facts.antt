@@ -1,20 +1,22 @@
 -- One row, at each return of a function: it is refused, or what it writes has been emitted. Assumes nothing.
 use mathlib.Core.Path.{_≡_, refl, sym, ap, _∙_}
-use mathlib.Core.Bool.{Bool, true, false, _||_}
+use mathlib.Core.Bool.{Bool, true, false, not, _||_, or-assoc}
 use mathlib.Core.List.{List, [], _∷_}
 use mathlib.Core.Option.{none, some}
 use Prim.Native.Nat.{ℕ, zero, suc, _+_, _^_, _<_, _≤_}
 use native.Mathlib.Omega.{arith}
 use lib.IntN.{ℤ, pos}
 use native.Mathlib.Nat.{zero-add, suc-add}
+use denote.Enum.Declared.{tagOf}
+use types.Run.{OneOf, miss}
 use lib.ListN.{length, take, drop, length-take, length-drop}
 use lib.Seq.{slice, take-nil}
 use Rattle.format.specs.Answer.{Answer, ok, refuse, _>>=_}
 use Rattle.format.specs.Label.{label, integer}
 use Rattle.format.specs.Modes.{inlineEverything}
 use Rattle.format.specs.Utf8.{isText}
-use Rattle.format.specs.Table.{string, varint, float64, bytes, fixed}
-use Rattle.format.specs.Row.{Place, Text, bytesAt, rowCount, integerRow, floatRow, stringRow, bytesRow, fixedRow, recordRow}
+use Rattle.format.specs.Table.{varint, float64, fixed}
+use Rattle.format.specs.Row.{Place, Text, bytesAt, rowCount, integerRow, floatRow, fixedRow, recordRow}
 use Rattle.format.specs.Write.{Event, Rest, nothing, text, value, mark, unlabelled, littleEndianBytes, fitLeaf}
 use Rattle.laws.specs.Lists.{little-length}
 use Rattle.laws.specs.Facts.{or-false, by-bool}
@@ -26,17 +28,18 @@ use Rattle.emit.specs.State.{planOf, Within, EmitsEvent, Puts}
 use Rattle.emit.specs.Text.{EmitsText}
 use Rattle.emit.specs.Does.{mark-emits}
 use Rattle.table.specs.declared.nodes.Leaf as code
+use Rattle.table.proofs.nodes.Leaf.{the-type}
 use Rattle.fit.specs.declared.Step.{Step}
 use Rattle.fit.specs.declared.Step.the-variants.{Done, Refused}
 use Rattle.fit.specs.declared.Pass.{Pass}
 use Rattle.fit.specs.Rest.{restOf}
 use Rattle.search.specs.Parts.{part-length}
 use Rattle.fit.specs.Judged.{placeIn, valueIn, truthOf, frontOf}
-use Rattle.fit.specs.Fits.{looked, found-there, string-not, string-stray, string-is, bytes-not, bytes-is, varint-not, varint-is, float-not, float-is, fixed-not, fixed-other, fixed-is}
+use Rattle.fit.specs.Fits.{textRow, textLeaf, looked, found-there, text-not, text-stray, text-is, varint-not, varint-is, float-not, float-is, fixed-not, fixed-other, fixed-is}
 use Rattle.fit.specs.Opens.{fitTruth, truth-not, truth-is, fitRecord, record-not, record-other, record-is, value-plain, front-not, front-gone, front-here}
 use Rattle.fit.specs.Writes.{Holds}
 use Rattle.fit.specs.Laws.{along, refuses, puts-any, same-self}
-use Rattle.fit.specs.Row.{nextStep, row-writes, Marks, WritesRow, OpensGone, OpensHere, WritesValue, WritesText, leafOf}
+use Rattle.fit.specs.Row.{nextStep, row-writes, Marks, WritesRow, OpensGone, OpensHere, WritesValue, WritesText, leafOf, isJudged}
 
 -- what a call answered, in the terms of its definition
 pub told : {A B : Type 0} (f : A → B) {r c : A} {x : B} → f r ≡ x → r ≡ c → x ≡ f c
@@ -110,8 +113,8 @@ drop-take (suc n) m [] = simp take-nil
 drop-take (suc n) m (x ∷ xs) = rw suc-add (drop-take n m xs)
 
 -- the text test's bytes are the part's
-pub part-text : (put : Bool) (pool : List ℕ) (start size : ℕ) {b : Bool} → b ≡ (put || isText (slice start (start + size) pool)) → (put || isText (bytesAt pool (record { start = start; size = size }))) ≡ b
-part-text put pool start size e = sym (e ∙ ap (λ x. put || isText x) (drop-take start size pool))
+pub part-text : (spared : Bool) (pool : List ℕ) (start size : ℕ) {b : Bool} → b ≡ (spared || isText (slice start (start + size) pool)) → (spared || isText (bytesAt pool (record { start = start; size = size }))) ≡ b
+part-text spared pool start size e = sym (e ∙ ap (λ x. spared || isText x) (drop-take start size pool))
 
 value-there : (pool rows : List ℕ) (i kind : ℕ) {n : ℕ} → valueIn kind (looked pool rows i) ≡ some n → i < rowCount rows
 unfolding valueIn
@@ -170,30 +173,24 @@ module _ {how : Pass} {pool rows out w out′ w′ : List ℕ} {i core : ℕ} (h
         → a ≡ ok (record { front = none; body = text k (bytesAt pool p) } ∷ [], restOf pool rows (i + 1)) → WritesText how numbered k pool rows out w core out′ w′ r a
     text-writes p t l d q e = record { writes = λ modes held z y. along e (row-writes h t (text-size k (bytesAt pool p) (part-short pool p l (h .ready .small))) (d .does modes held z y) q) }
 
-    pub string-none : placeIn stringRow (looked pool rows i) ≡ none → WritesText how numbered k pool rows out w core out′ w′ (Refused 42 i) (fitLeaf k string false (restOf pool rows i))
-    string-none e = text-refuses (string-not pool rows i k false e)
+    module _ (judged : Bool) where
+      pub text-none : placeIn (textRow judged) (looked pool rows i) ≡ none → WritesText how numbered k pool rows out w core out′ w′ (Refused 42 i) (fitLeaf k (textLeaf judged) false (restOf pool rows i))
+      text-none e = text-refuses (text-not pool rows i k false judged e)
 
-    pub bytes-none : placeIn bytesRow (looked pool rows i) ≡ none → WritesText how numbered k pool rows out w core out′ w′ (Refused 42 i) (fitLeaf k bytes false (restOf pool rows i))
-    bytes-none e = text-refuses (bytes-not pool rows i k false e)
+      module _ (p : Place) (l : p .start + p .size ≤ length pool) (e : placeIn (textRow judged) (looked pool rows i) ≡ some p) where
+        pub text-28 : (how .put || not judged || isText (bytesAt pool p)) ≡ false → WritesText how numbered k pool rows out w core out′ w′ (Refused 28 i) (fitLeaf k (textLeaf judged) false (restOf pool rows i))
+        text-28 z = text-refuses (text-stray pool rows i k false judged e (or-false (how .put) _ (sym (or-assoc (how .put) (not judged) _) ∙ z) .1))
 
-    module _ (p : Place) (l : p .start + p .size ≤ length pool) where
-      pub string-28 : placeIn stringRow (looked pool rows i) ≡ some p → (how .put || isText (bytesAt pool p)) ≡ false → WritesText how numbered k pool rows out w core out′ w′ (Refused 28 i) (fitLeaf k string false (restOf pool rows i))
-      string-28 e z = text-refuses (string-stray pool rows i k false e (or-false (how .put) (isText (bytesAt pool p)) z .1))
+        module _ {s : emitted.Step} {r : Step} (d : Texts how numbered k pool out w out′ w′ core s p) (q : r ≡ nextStep i s) where
+          text-good : (not judged || isText (bytesAt pool p)) ≡ true → WritesText how numbered k pool rows out w core out′ w′ r (fitLeaf k (textLeaf judged) false (restOf pool rows i))
+          text-good z = text-writes p (place-there pool rows i (textRow judged) e) l d q (text-is pool rows i k false judged e z)
 
-      module _ {s : emitted.Step} {r : Step} (e : placeIn stringRow (looked pool rows i) ≡ some p) (d : Texts how numbered k pool out w out′ w′ core s p) (q : r ≡ nextStep i s) where
-        string-text : isText (bytesAt pool p) ≡ true → WritesText how numbered k pool rows out w core out′ w′ r (fitLeaf k string false (restOf pool rows i))
-        string-text z = text-writes p (place-there pool rows i stringRow e) l d q (string-is pool rows i k false e z)
+          -- where it is no text nothing is said of what is put
+          text-put : how .put ≡ true → (not judged || isText (bytesAt pool p)) ≡ false → WritesText how numbered k pool rows out w core out′ w′ r (fitLeaf k (textLeaf judged) false (restOf pool rows i))
+          text-put y z = record { writes = λ modes held a b. along (text-stray pool rows i k false judged e z) (puts-any 28 i y (text-writes p (place-there pool rows i (textRow judged) e) l d q refl .writes modes held a b)) }
 
-        -- where it is no text nothing is said of what is put
-        string-put : how .put ≡ true → isText (bytesAt pool p) ≡ false → WritesText how numbered k pool rows out w core out′ w′ r (fitLeaf k string false (restOf pool rows i))
-        string-put y z = record { writes = λ modes held a b. along (string-stray pool rows i k false e z) (puts-any 28 i y (text-writes p (place-there pool rows i stringRow e) l d q refl .writes modes held a b)) }
-
-        pub string-some : (how .put || isText (bytesAt pool p)) ≡ true → WritesText how numbered k pool rows out w core out′ w′ r (fitLeaf k string false (restOf pool rows i))
-        string-some z = by-bool (isText (bytesAt pool p)) string-text (λ y. string-put (or-of (how .put) y z) y)
-
-      pub bytes-some : {s : emitted.Step} {r : Step} → placeIn bytesRow (looked pool rows i) ≡ some p → Texts how numbered k pool out w out′ w′ core s p → r ≡ nextStep i s
-          → WritesText how numbered k pool rows out w core out′ w′ r (fitLeaf k bytes false (restOf pool rows i))
-      bytes-some e d q = text-writes p (place-there pool rows i bytesRow e) l d q (bytes-is pool rows i k false e)
+          pub text-some : (how .put || not judged || isText (bytesAt pool p)) ≡ true → WritesText how numbered k pool rows out w core out′ w′ r (fitLeaf k (textLeaf judged) false (restOf pool rows i))
+          text-some z = by-bool (not judged || isText (bytesAt pool p)) text-good (λ y. text-put (or-of (how .put) y (sym (or-assoc (how .put) (not judged) _) ∙ z)) y)
 
 -- ---- a truth, a record, and what stands in front of a value
 
@@ -237,17 +234,25 @@ module _ {put : Bool} {pool rows out out′ : List ℕ} {i core : ℕ} where
 
 -- ---- by what the key holds
 
-module _ {how : Pass} {pool rows out w out′ w′ : List ℕ} {core k : ℕ} {r : Step} {numbered : Bool} {l : code.Leaf} (i : ℕ) (labelled : Bool) where
-  pub held-string : l ≡ code.the-variants.String → WritesText how numbered k pool rows out w core out′ w′ r (fitLeaf k string false (restOf pool rows i))
+-- the tags are those of all but the code's `String`
+pub not-judged : (l : code.Leaf) → OneOf (1 ∷ 2 ∷ 3 ∷ 4 ∷ []) (tagOf the-type l) → false ≡ isJudged l
+not-judged code.the-variants.String h = absurd (miss (1 ∷ 2 ∷ 3 ∷ 4 ∷ []) 0 tt h)
+not-judged code.the-variants.Varint h = refl
+not-judged code.the-variants.Float64 h = refl
+not-judged code.the-variants.Bytes h = refl
+not-judged (code.the-variants.Fixed n) h = refl
+
+module _ {how : Pass} {pool rows out w out′ w′ : List ℕ} {core k : ℕ} {r : Step} {numbered : Bool} (i : ℕ) (labelled : Bool) where
+  -- the tags are those of the code's `String` and `Bytes`
+  pub held-text : {b : Bool} (l : code.Leaf) → OneOf (0 ∷ 3 ∷ []) (tagOf the-type l) → b ≡ isJudged l → WritesText how numbered k pool rows out w core out′ w′ r (fitLeaf k (textLeaf b) false (restOf pool rows i))
       → WritesText how numbered k pool rows out w core out′ w′ r (fitLeaf k (leafOf l) labelled (restOf pool rows i))
   unfolding leafOf fitLeaf
-  held-string q d = rw q d
+  held-text code.the-variants.String h q d = rw q at d
+  held-text code.the-variants.Varint h q d = absurd (miss (0 ∷ 3 ∷ []) 1 tt h)
+  held-text code.the-variants.Float64 h q d = absurd (miss (0 ∷ 3 ∷ []) 2 tt h)
+  held-text code.the-variants.Bytes h q d = rw q at d
+  held-text (code.the-variants.Fixed n) h q d = absurd (miss (0 ∷ 3 ∷ []) 4 tt h)
 
-  pub held-bytes : l ≡ code.the-variants.Bytes → WritesText how numbered k pool rows out w core out′ w′ r (fitLeaf k bytes false (restOf pool rows i))
-      → WritesText how numbered k pool rows out w core out′ w′ r (fitLeaf k (leafOf l) labelled (restOf pool rows i))
-  unfolding leafOf fitLeaf
-  held-bytes q d = rw q d
-
-  pub held-value : {l₁ : code.Leaf} → l ≡ l₁ → WritesValue how pool rows out w core out′ w′ r (fitLeaf k (leafOf l₁) labelled (restOf pool rows i))
+  pub held-value : {l l₁ : code.Leaf} → l ≡ l₁ → WritesValue how pool rows out w core out′ w′ r (fitLeaf k (leafOf l₁) labelled (restOf pool rows i))
       → WritesText how numbered k pool rows out w core out′ w′ r (fitLeaf k (leafOf l) labelled (restOf pool rows i))
   held-value q d = rw q (as-text d)

@@ -1,6 +1,6 @@
 -- What a row that was looked at writes, or how it is refused.
 use mathlib.Core.Path.{_≡_, refl, sym, ap, _∙_}
-use mathlib.Core.Bool.{Bool, true, false, cond, _&&_}
+use mathlib.Core.Bool.{Bool, true, false, cond, not, _&&_, _||_}
 use mathlib.Core.List.{List, [], _∷_}
 use mathlib.Core.Option.{Option, none, some, Option·map}
 use Prim.Native.Nat.{ℕ, _+_, _^_, _<_}
@@ -10,12 +10,21 @@ use borrow.Author.Tests.{ltb-true, lt-ltb, eq-eqb, ne-eqb}
 use Rattle.format.specs.Answer.{Answer, ok, refuse, _>>=_, _>>_, needAt, orRefuse}
 use Rattle.format.specs.Label.{label, integer}
 use Rattle.format.specs.Utf8.{isText}
-use Rattle.format.specs.Table.{string, varint, float64, bytes, fixed}
+use Rattle.format.specs.Table.{Leaf, string, varint, float64, bytes, fixed}
 use Rattle.format.specs.Row.{Row, bare, placed, Place, Text, Cell, bytesAt, rowCount, look, cellOf, integerRow, floatRow, stringRow, bytesRow, fixedRow}
 use Rattle.format.specs.Write.{Event, Rest, next, text, value, unlabelled, isBare, wordIn, textIn, truthIn, littleEndianBytes, fitLeaf}
 use Rattle.laws.specs.Facts.{absurd-some, some-same, need-ok}
 use Rattle.fit.specs.Rest.{restOf, nextOf, next-look}
 use Rattle.fit.specs.Judged.{placeIn, valueIn, truthOf}
+
+-- A text that is judged is a STRING, another is BYTES: its row's kind, and what its key holds.
+abbrev pub textRow : Bool → ℕ
+textRow true = stringRow
+textRow false = bytesRow
+
+abbrev pub textLeaf : Bool → Leaf
+textLeaf true = string
+textLeaf false = bytes
 
 -- Row i, where looking at it answers l.
 module _ (pool rows : List ℕ) (i : ℕ) where
@@ -99,28 +108,27 @@ module _ (pool rows : List ℕ) (i : ℕ) where
     word-missing e = word-judged kind looked (λ b q. absurd-some (sym e ∙ q)) ∙ e
 
   module _ (k : ℕ) (labelled : Bool) where
-    -- STRING
-    pub string-not : placeIn stringRow looked ≡ none → fitLeaf k string labelled (restOf pool rows i) ≡ refuse 42 i
-    unfolding fitLeaf
-    string-not e = judge-not (textIn stringRow) (λ v r. needAt (isText v) 28 i >> ok (record { front = none; body = text k v } ∷ [], r)) (text-missing stringRow e)
+    -- STRING or BYTES: only what is judged has to be a text
+    abbrev onText : Bool → Text → Rest → Answer (List Event × Rest)
+    onText judged v r = needAt (not judged || isText v) 28 i >> ok (record { front = none; body = text k v } ∷ [], r)
 
-    pub string-stray : {p : Place} → placeIn stringRow looked ≡ some p → isText (bytesAt pool p) ≡ false → fitLeaf k string labelled (restOf pool rows i) ≡ refuse 28 i
+    text-as : (judged : Bool) → fitLeaf k (textLeaf judged) labelled (restOf pool rows i) ≡ (next (restOf pool rows i) >>= (λ x. found (textIn (textRow judged)) (onText judged) (textIn (textRow judged) (x .0)) (x .1)))
     unfolding fitLeaf needAt _>>_
-    string-stray e h = judge-is (textIn stringRow) (λ v r. needAt (isText v) 28 i >> ok (record { front = none; body = text k v } ∷ [], r)) (text-found stringRow e) ∙ rw h
+    text-as true = refl
+    text-as false = refl
 
-    pub string-is : {p : Place} → placeIn stringRow looked ≡ some p → isText (bytesAt pool p) ≡ true
-        → fitLeaf k string labelled (restOf pool rows i) ≡ ok (record { front = none; body = text k (bytesAt pool p) } ∷ [], restOf pool rows (i + 1))
-    unfolding fitLeaf needAt _>>_
-    string-is e h = judge-is (textIn stringRow) (λ v r. needAt (isText v) 28 i >> ok (record { front = none; body = text k v } ∷ [], r)) (text-found stringRow e) ∙ rw h
+    module _ (judged : Bool) where
+      pub text-not : placeIn (textRow judged) looked ≡ none → fitLeaf k (textLeaf judged) labelled (restOf pool rows i) ≡ refuse 42 i
+      text-not e = text-as judged ∙ judge-not (textIn (textRow judged)) (onText judged) (text-missing (textRow judged) e)
 
-    -- BYTES
-    pub bytes-not : placeIn bytesRow looked ≡ none → fitLeaf k bytes labelled (restOf pool rows i) ≡ refuse 42 i
-    unfolding fitLeaf
-    bytes-not e = judge-not (textIn bytesRow) (λ v r. ok (record { front = none; body = text k v } ∷ [], r)) (text-missing bytesRow e)
+      module _ {p : Place} (e : placeIn (textRow judged) looked ≡ some p) where
+        pub text-stray : (not judged || isText (bytesAt pool p)) ≡ false → fitLeaf k (textLeaf judged) labelled (restOf pool rows i) ≡ refuse 28 i
+        unfolding needAt _>>_
+        text-stray h = text-as judged ∙ judge-is (textIn (textRow judged)) (onText judged) (text-found (textRow judged) e) ∙ rw h
 
-    pub bytes-is : {p : Place} → placeIn bytesRow looked ≡ some p → fitLeaf k bytes labelled (restOf pool rows i) ≡ ok (record { front = none; body = text k (bytesAt pool p) } ∷ [], restOf pool rows (i + 1))
-    unfolding fitLeaf
-    bytes-is e = judge-is (textIn bytesRow) (λ v r. ok (record { front = none; body = text k v } ∷ [], r)) (text-found bytesRow e)
+        pub text-is : (not judged || isText (bytesAt pool p)) ≡ true → fitLeaf k (textLeaf judged) labelled (restOf pool rows i) ≡ ok (record { front = none; body = text k (bytesAt pool p) } ∷ [], restOf pool rows (i + 1))
+        unfolding needAt _>>_
+        text-is h = text-as judged ∙ judge-is (textIn (textRow judged)) (onText judged) (text-found (textRow judged) e) ∙ rw h
 
     -- VARINT
     pub varint-not : valueIn integerRow looked ≡ none → fitLeaf k varint labelled (restOf pool rows i) ≡ refuse 42 i

@@ -1,6 +1,6 @@
 -- One row, judged and emitted: what each function of the crate promises, and why it does so.
 use mathlib.Core.Path.{_≡_, refl, _∙_}
-use mathlib.Core.Bool.{Bool}
+use mathlib.Core.Bool.{Bool, true, false}
 use mathlib.Core.List.{List, [], _∷_}
 use Prim.Native.Nat.{ℕ, _+_, _<_, _≤_}
 use native.Mathlib.Omega.{arith}
@@ -94,3 +94,11 @@ leafOf code.the-variants.Varint = varint
 leafOf code.the-variants.Float64 = float64
 leafOf code.the-variants.Bytes = bytes
 leafOf (code.the-variants.Fixed n) = fixed n
+
+-- of a leaf that holds texts: are they judged?
+abbrev pub isJudged : code.Leaf → Bool
+isJudged code.the-variants.String = true
+isJudged code.the-variants.Varint = false
+isJudged code.the-variants.Float64 = false
+isJudged code.the-variants.Bytes = false
+isJudged (code.the-variants.Fixed n) = false

@@ -5,11 +5,12 @@ ghost use Prim.Native.Nat.{_<_, _≤_};
 ghost use lib.ListN.{length};
 ghost use lib.Seq.{slice};
 ghost use Rattle.format.specs.Utf8.{isText};
-ghost use Rattle.format.specs.Table.{string, varint, float64, bytes, fixed};
+ghost use Rattle.format.specs.Table.{varint, float64, fixed};
 ghost use Rattle.format.specs.Write.{fitLeaf};
 ghost use Rattle.fit.specs.Rest.{restOf};
+ghost use Rattle.fit.specs.Fits.{textRow, textLeaf};
 ghost use Rattle.fit.specs.Writes.{Holds};
-ghost use Rattle.fit.specs.Row.{WritesValue, WritesText, leafOf};
+ghost use Rattle.fit.specs.Row.{WritesValue, WritesText, leafOf, isJudged};
 use super::Pass;
 use super::Step;
 use super::next;
@@ -21,71 +22,58 @@ use emit::text;
 use rows::kind;
 use table::nodes::Leaf;
 
-// Only the pass that counts judges a text: the one that puts comes after it.
-fn passes(pool: &[u8], put: bool, start: usize, end: usize) -> bool
+// A text that is spared is not judged.
+fn passes(pool: &[u8], spared: bool, start: usize, end: usize) -> bool
     requires { ⌜ end ≤ length (now pool) ⌝ }
-    ensures { λ r. ⌜ r ≡ (put || isText (slice start end (now (pool .entry)))) ⌝ }
+    ensures { λ r. ⌜ r ≡ (spared || isText (slice start end (now (pool .entry)))) ⌝ }
 {
-    if put {
+    if spared {
         return true;
     }
     utf8::is_text(pool, start, end)
 }
 
-fn string(
-    rows: &[u64],
-    pool: &[u8],
-    out: &mut [u8],
-    work: &mut [u32],
-    how: Pass,
-    numbered: bool,
-    key: usize,
-    i: usize,
-    core: usize,
-) -> Step
-    requires { ⌜ (Holds (now pool) (now rows) (now work) i core) × (key < 32) ⌝ }
-    ensures { λ r. ⌜ WritesText how numbered key (now (pool .entry)) (now (rows .entry)) (now (out .entry)) (now (work .entry)) core (now (out .exit)) (now (work .exit)) r (fitLeaf key string false (restOf (now (pool .entry)) (now (rows .entry)) i)) ⌝ }
+// Is the text of this leaf, one of the two that hold texts, judged?
+fn is_judged(leaf: Leaf) -> bool
+    ensures { λ r. ⌜ r ≡ isJudged leaf ⌝ }
 {
-    let Part::At(start, size) = row::part_at(rows, pool, kind::STRING, i) else {
-        return Step::Refused(42, i as u64);
-    };
-    if !passes(pool, how.put, start, start + size) {
-        return Step::Refused(28, i as u64);
+    match leaf {
+        Leaf::String => true,
+        _ => false,
     }
-    next(
-        i,
-        text::emit_text(
-            pool,
-            out,
-            work,
-            how.put,
-            how.inline,
-            numbered,
-            core,
-            key,
-            start,
-            size,
-        ),
-    )
 }
 
-fn bytes(
+fn kind_of(judged: bool) -> u64
+    ensures { λ r. ⌜ r ≡ textRow judged ⌝ }
+{
+    if judged {
+        return kind::STRING;
+    }
+    kind::BYTES
+}
+
+// A STRING, whose text is judged, or BYTES. Only the pass that counts judges: the one that puts comes after it.
+fn text(
     rows: &[u64],
     pool: &[u8],
     out: &mut [u8],
     work: &mut [u32],
     how: Pass,
     numbered: bool,
+    judged: bool,
     key: usize,
     i: usize,
     core: usize,
 ) -> Step
     requires { ⌜ (Holds (now pool) (now rows) (now work) i core) × (key < 32) ⌝ }
-    ensures { λ r. ⌜ WritesText how numbered key (now (pool .entry)) (now (rows .entry)) (now (out .entry)) (now (work .entry)) core (now (out .exit)) (now (work .exit)) r (fitLeaf key bytes false (restOf (now (pool .entry)) (now (rows .entry)) i)) ⌝ }
+    ensures { λ r. ⌜ WritesText how numbered key (now (pool .entry)) (now (rows .entry)) (now (out .entry)) (now (work .entry)) core (now (out .exit)) (now (work .exit)) r (fitLeaf key (textLeaf judged) false (restOf (now (pool .entry)) (now (rows .entry)) i)) ⌝ }
 {
-    let Part::At(start, size) = row::part_at(rows, pool, kind::BYTES, i) else {
+    let Part::At(start, size) = row::part_at(rows, pool, kind_of(judged), i) else {
         return Step::Refused(42, i as u64);
     };
+    if !passes(pool, how.put | !judged, start, start + size) {
+        return Step::Refused(28, i as u64);
+    }
     next(
         i,
         text::emit_text(
@@ -205,10 +193,21 @@ pub fn leaf(
     ensures { λ r. ⌜ WritesText how numbered key (now (pool .entry)) (now (rows .entry)) (now (out .entry)) (now (work .entry)) core (now (out .exit)) (now (work .exit)) r (fitLeaf key (leafOf leaf) labelled (restOf (now (pool .entry)) (now (rows .entry)) i)) ⌝ }
 {
     match leaf {
-        Leaf::String => string(rows, pool, out, work, how, numbered, key, i, core),
-        Leaf::Bytes => bytes(rows, pool, out, work, how, numbered, key, i, core),
         Leaf::Varint => varint(rows, pool, out, work, how, labelled, key, i, core),
         Leaf::Float64 => float64(rows, pool, out, work, how, labelled, key, i, core),
         Leaf::Fixed(n) => fixed(rows, pool, out, work, how, labelled, key, n, i, core),
+        // a STRING or BYTES: one call for both, so that it can be written out here
+        _ => text(
+            rows,
+            pool,
+            out,
+            work,
+            how,
+            numbered,
+            is_judged(leaf),
+            key,
+            i,
+            core,
+        ),
     }
 }

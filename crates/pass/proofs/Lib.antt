@@ -1,3 +1,4 @@
 pub mod Loops
 pub mod Runs
 pub mod Values
+pub mod Descents

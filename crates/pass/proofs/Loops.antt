@@ -104,11 +104,11 @@ module _ (how : Pass) (table pool rows out₀ w₀ : List ℕ) (node count i₀ 
 
 -- ---- fields
 
-all-none : (held : ℕ → Held) (ws : Fields) (r : Rest) → fieldCount ws ≡ 0 → fitAll held ws r ≡ ok ([], r)
+pub all-none : (held : ℕ → Held) (ws : Fields) (r : Rest) → fieldCount ws ≡ 0 → fitAll held ws r ≡ ok ([], r)
 unfolding fitAll
 all-none held ws r z = by-no-field 0 (nodeAt []) (λ i. 0) held (λ vs. fitAll held vs r ≡ ok ([], r)) 0 ws z refl
 
-all-some : (held : ℕ → Held) (o : Bool) (v : Node) (vs : Fields) (r : Rest) → fitAll held (field o v vs) r ≡ (fitValue held o v r >>= (λ x. fitAll held vs (x .1) >>= (λ y. ok (joined x y))))
+pub all-some : (held : ℕ → Held) (o : Bool) (v : Node) (vs : Fields) (r : Rest) → fitAll held (field o v vs) r ≡ (fitValue held o v r >>= (λ x. fitAll held vs (x .1) >>= (λ y. ok (joined x y))))
 unfolding fitAll
 all-some held o v vs r = refl
 

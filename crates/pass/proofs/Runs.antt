@@ -6,18 +6,22 @@ use Prim.Native.Nat.{ℕ, _-_, _≤_}
 use native.Mathlib.Omega.{arith}
 use lib.ListN.{length}
 use Rattle.format.specs.Answer.{Answer, ok, refuse, _>>=_}
-use Rattle.format.specs.Table.{nodeAt}
-use Rattle.format.specs.Write.{Event, Rest, Fit, fitEntries}
+use Rattle.format.specs.Table.{nodeAt, omittable, Node, Fields, field, Held}
+use Rattle.format.specs.Read.{fieldCount}
+use Rattle.format.specs.Write.{Event, Rest, Fit, fitEntries, fitAll}
 use Rattle.laws.specs.Facts.{by-bool}
-use Rattle.typed.specs.Typed.{Sized, FitsNode}
+use Rattle.typed.specs.Typed.{Sized, heldIn, FitsNode}
+use Rattle.typed.specs.Nodes.{first-of, first-depth}
 use Rattle.typed.specs.Run.{FitRun, absentIn, nextIn}
 use Rattle.fit.specs.declared.Step.{Step}
 use Rattle.fit.specs.declared.Step.the-variants.{Done, Refused}
 use Rattle.fit.specs.declared.Pass.{Pass}
+use Rattle.fit.specs.Rest.{restOf}
 use Rattle.fit.specs.Writes.{Holds}
 use Rattle.fit.specs.Laws.{along}
+use Rattle.fit.specs.Opens.{fitValue}
 use Rattle.pass.specs.Pass.{WritesNode, WritesFields, WritesEntries, WritesRun}
-use Rattle.pass.proofs.Loops.{node-as, EntriesAt, entries-begin, entries-fits, entries-not, entries-again, entries-end, FieldsAt, fields-begin, fields-fits, fields-not, fields-again, fields-end}
+use Rattle.pass.proofs.Loops.{node-as, all-none, all-some, EntriesAt, entries-begin, entries-fits, entries-not, entries-again, entries-end, FieldsAt, fields-begin, fields-fits, fields-not, fields-again, fields-end}
 
 pub record RunAt (how : Pass) (table pool rows out₀ w₀ : List ℕ) (node₀ : ℕ) (repeated : Bool) (count i₀ core₀ : ℕ) (out w : List ℕ) (k node i core : ℕ) : Type 0 where
   pub lent : length out ≡ length out₀
@@ -88,13 +92,34 @@ module _ (how : Pass) (table pool rows out₀ w₀ : List ℕ) (node₀ : ℕ) (
 pub no-fields : (how : Pass) (table pool rows out w : List ℕ) (node count i core : ℕ) → Holds pool rows w i core → Sized table → count ≡ 0 → WritesFields how table pool rows out w core out w (Done i core) i node count
 no-fields how table pool rows out w node count i core h whole z = fields-end how table pool rows out w node count i core out w count node i core (fields-begin how table pool rows out w node count i core h) whole z
 
+-- a value, and nothing after it
+alone : (a : Answer (List Event × Rest)) → (a >>= (λ x. ok (x .0 ++ [], x .1))) ≡ a
+unfolding _>>=_
+alone (ok x) = ap (λ es. ok (es, x .1)) (append-nil (x .0))
+alone (refuse i j) = refl
+
 entries-one : (f : Fit) (r : Rest) → fitEntries 1 f r ≡ f r
 unfolding fitEntries _>>=_
-entries-one f r = go (f r)
-  where
-    go : (a : Answer (List Event × Rest)) → (a >>= (λ x. ok (x .0 ++ [], x .1))) ≡ a
-    go (ok x) = ap (λ es. ok (es, x .1)) (append-nil (x .0))
-    go (refuse i j) = refl
+entries-one f r = alone (f r)
 
-pub one-entry : {how : Pass} {table pool rows out w out′ w′ : List ℕ} {core i node : ℕ} {r : Step} → WritesRun how table pool rows out w core out′ w′ r i node true 1 → WritesNode how table pool rows out w core out′ w′ r i node false
-one-entry x = record { writes = λ modes s v h. along (sym (entries-one _ _)) (x .entries refl .writes modes s v h) }
+all-one : (held : ℕ → Held) (o : Bool) (v : Node) (vs : Fields) (r : Rest) → fieldCount vs ≡ 0 → fitAll held (field o v vs) r ≡ fitValue held o v r
+unfolding _>>=_
+all-one held o v vs r z =
+    let n : (t : Rest) → fitAll held vs t ≡ ok ([], t) = λ t. all-none held vs t z in
+    all-some held o v vs r ∙ simp n (alone (fitValue held o v r))
+
+module _ {how : Pass} {table pool rows out w out′ w′ : List ℕ} {core i node : ℕ} {r : Step} where
+  pub one-entry : WritesRun how table pool rows out w core out′ w′ r i node true 1 → WritesNode how table pool rows out w core out′ w′ r i node false
+  one-entry x = record { writes = λ modes s v h. along (sym (entries-one _ _)) (x .entries refl .writes modes s v h) }
+
+  pub entry-alone : WritesNode how table pool rows out w core out′ w′ r i node false → WritesEntries how table pool rows out w core out′ w′ r i node 1
+  entry-alone x = record { writes = λ modes s v h. along (entries-one _ _) (x .writes modes s v h) }
+
+  pub field-alone : WritesNode how table pool rows out w core out′ w′ r i node (omittable (nodeAt table node)) → WritesFields how table pool rows out w core out′ w′ r i node 1
+  field-alone x = record {
+    writes = λ modes s ws a e.
+        let u = first-of table w node ws a (λ q. omega arith) in
+        let c : fieldCount ws ≡ fieldCount (field (omittable (nodeAt table node)) (u .first) (u .others)) = ap fieldCount (u .splits) in
+        let z : fieldCount (u .others) ≡ 0 = omega (arith, first-depth (omittable (nodeAt table node)) (u .first) (u .others) .2) in
+        along (ap (λ vs. fitAll (heldIn table) vs (restOf pool rows i)) (u .splits) ∙ all-one (heldIn table) _ (u .first) (u .others) _ z) (x .writes modes s (u .first) (u .is));
+  }

@@ -1,2 +1,3 @@
 -- What a pass over the rows does.
 pub mod Pass
+pub mod Descent

@@ -9,6 +9,7 @@ ghost use Rattle.typed.specs.Typed.{Sized, FitsNode, FitsWire, below as belowOf
 ghost use Rattle.typed.specs.Run.{FitRun};
 ghost use Rattle.fit.specs.Writes.{Holds};
 ghost use Rattle.pass.specs.Pass.{WritesNode, WritesWire, WritesRun};
+use descent::Descent;
 use fit::Opening;
 use fit::Pass;
 use fit::Step;
@@ -16,6 +17,8 @@ use fit::row;
 use fit::row::Word;
 use rows::kind;
 use table::nodes;
+
+pub mod descent;
 
 // The same answer, made anew: a copy of it would go through memory, which takes longer.
 fn again(r: Step) -> Step
@@ -204,8 +207,9 @@ fn array(
 }
 
 // So many values: entries, which all have the type at `node`, or fields, the first of them at `node`. One loop for both,
-// so that a call is made for what a record or an array holds, and none for each value. What differs from call to call comes
-// first: it goes in registers. A count of entries may be any word: the first row that is missing ends them.
+// so that a call is made for what a record or an array holds, and none for each value; nor for what one holds that has
+// one value alone, which `descend` comes to by itself. What differs from call to call comes first: it goes in registers.
+// A count of entries may be any word: the first row that is missing ends them.
 fn run(
     i: usize,
     core: usize,
@@ -229,7 +233,11 @@ fn run(
     while k != 0 {
         let omittable = typed::may_be_absent(table, at, repeated);
         let after = typed::next_node(work, at, repeated);
-        let r = value(table, rows, pool, out, work, how, omittable, at, n, end);
+        let d = descent::descend(table, rows, pool, out, how.put, omittable, at, n, end);
+        let Descent::To(inner, absent, first, far) = d else {
+            return descent::step(d);
+        };
+        let r = value(table, rows, pool, out, work, how, absent, inner, first, far);
         let Step::Done(next, further) = r else {
             return again(r);
         };

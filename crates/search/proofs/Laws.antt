@@ -1,9 +1,9 @@
 -- Laws of equal texts, of parts of the pool, of the search among a key's literals, and of what a turn of it learns.
 use mathlib.Core.Path.{_≡_, refl, sym, ap, subst, _∙_}
-use mathlib.Core.Bool.{Bool, true, false, _&&_}
+use mathlib.Core.Bool.{Bool, true, false}
 use mathlib.Core.List.{List, [], _∷_, map}
 use mathlib.Core.Option.{Option, none, some, Option·some-injective}
-use Prim.Native.Nat.{ℕ, zero, suc, _+_, _*_, _/_, _%_, _<_, _≤_}
+use Prim.Native.Nat.{ℕ, zero, suc, _+_, _-_, _*_, _/_, _%_, _<_, _≤_, _^_}
 use native.Mathlib.Nat.{zero-add, add-zero}
 use native.Mathlib.Numerals.{add-one}
 use native.Mathlib.Omega.{arith}
@@ -15,10 +15,12 @@ use Rattle.format.specs.Row.{Place, bytesAt, Text}
 use Rattle.format.specs.Read.{nth}
 use Rattle.format.specs.Write.{sameText, further, firstEqual}
 use Rattle.laws.specs.Texts.{same-eq, same-refl}
-use Rattle.laws.specs.Facts.{absurd-some, and-true}
+use Rattle.laws.specs.Facts.{by-bool, absurd-some, and-true, true-and}
+use Rattle.store.specs.Words.{Seeks}
+use Rattle.store.specs.Laws.{nth-there}
 use Rattle.search.specs.Parts.{part-length, part-at}
 use Rattle.search.specs.Front.{Front, front, alike, common-is, front-short, alike-length, alike-agrees, unlike, front-met, front-passed}
-use Rattle.search.specs.Search.{placeOf, frontOf, textOf, textsOf, Stands, Keeps}
+use Rattle.search.specs.Search.{placeOf, frontOf, secondWord, textOf, textsOf, Stands, Keeps}
 
 unequal : (a b : Text) → (a ≡ b → ⊥) → sameText a b ≡ false
 unequal a b d = go (sameText a b) refl
@@ -84,34 +86,61 @@ module _ (pool : List ℕ) (v : Text) (ps : List Place) (j : ℕ) where
 
 -- ---- one turn
 
+-- the parts of the second word
+near-parts : (m near low : ℕ) → near < 4096 → m ≡ near + 4096 * low → (m % 4096 ≡ near) × (m / 4096 ≡ low)
+near-parts m near low h e = (omega arith, omega arith)
+
+word-parts : (size near pairs word : ℕ) → size < 131072 → near < 4096 → word ≡ secondWord size near pairs → (word % 131072 ≡ size) × (word / 131072 % 4096 ≡ near) × (word / 131072 / 4096 ≡ pairs % 8)
+word-parts size near pairs word hs hn e =
+    let m : word / 131072 ≡ near + 4096 * (pairs % 8) = omega arith in
+    let n = near-parts (word / 131072) near (pairs % 8) hn m in
+    (omega arith, n .0, n .1)
+
 -- the two words against what is known of the text
-module _ (first second near word : ℕ) where
+module _ (p x : Place) (near pairs : ℕ) where
   abbrev test : Bool
-  test = alike (word % 131072) (record { near = near; pairs = word / 131072 }) (second % 131072) (record { near = first / 131072; pairs = second / 131072 })
+  test = alike (p .size) (record { near = near; pairs = pairs }) (x .size % 131072) (frontOf x)
 
-  pub word-other : (second ≡ word → ⊥) → false ≡ test
+  module _ (small : x .size < 2 ^ 32) where
+    words-told : test ≡ true → (x .size ≡ secondWord (p .size) near pairs) × (x .start / 131072 ≡ pairs / 8)
+    unfolding alike
+    words-told e =
+        let a = and-true (eqb (x .size % 131072) (p .size)) _ e in
+        let b = and-true (eqb (x .size / 131072 % 4096) near) _ (a .1) in
+        let s = eqb-true (x .size % 131072) (p .size) (a .0) in
+        let n = eqb-true (x .size / 131072 % 4096) near (b .0) in
+        let m = eqb-true (8 * (x .start / 131072) + x .size / 131072 / 4096) pairs (b .1) in
+        let l : x .size / 131072 / 4096 < 8 = omega arith in
+        let y : x .size / 131072 / 4096 ≡ pairs % 8 = omega arith in
+        let z : x .size / 131072 ≡ near + 4096 * (pairs % 8) = omega arith in
+        (omega arith, omega arith)
+
+    pub second-other : (x .size ≡ secondWord (p .size) near pairs → ⊥) → test ≡ false
+    second-other d = by-bool test (λ e. absurd (d (words-told e .0))) (λ e. e)
+
+    pub first-other : (x .start / 131072 ≡ pairs / 8 → ⊥) → test ≡ false
+    first-other d = by-bool test (λ e. absurd (d (words-told e .1))) (λ e. e)
+
+  pub words-same : p .size < 131072 → near < 4096 → x .size ≡ secondWord (p .size) near pairs → x .start / 131072 ≡ pairs / 8 → test ≡ true
   unfolding alike
-  word-other d = go test refl
-    where
-      go : (t : Bool) → test ≡ t → false ≡ t
-      go true e =
-          let x = and-true (eqb (second % 131072) (word % 131072)) _ e in
-          let y = and-true (eqb (first / 131072) near) _ (x .1) in
-          absurd (d (omega (arith, eqb-true (second % 131072) (word % 131072) (x .0), eqb-true (second / 131072) (word / 131072) (y .1))))
-      go false e = refl
+  words-same hs hn e f =
+      let w = word-parts (p .size) near pairs (x .size) hs hn e in
+      let m : 8 * (x .start / 131072) + x .size / 131072 / 4096 ≡ pairs = omega (arith, w .2) in
+      true-and (eq-eqb _ _ (w .0)) (true-and (eq-eqb _ _ (w .1)) (eq-eqb _ _ m))
 
-  pub word-same : second ≡ word → eqb (first / 131072) near ≡ test
-  unfolding alike
-  word-same e = rw (e, eq-eqb (word % 131072) (word % 131072) refl, eq-eqb (word / 131072) (word / 131072) refl) (go (eqb (first / 131072) near))
-    where
-      go : (t : Bool) → t ≡ (t && true)
-      go true = refl
-      go false = refl
+-- what is so of the text at p behind j of the literals
+pub record Reached (pool : List ℕ) (p : Place) (xs : List Place) (j near pairs : ℕ) : Type 0 where
+  pub equal : firstEqual (bytesAt pool p) (textsOf pool xs) ≡ equalFrom (bytesAt pool p) (textsOf pool xs) j
+  pub learnt : front (bytesAt pool p) (textsOf pool xs) j ≡ record { near = near; pairs = pairs }
 
--- the text at p, of the front learnt so far, and literal j
+pub reached-none : (pool : List ℕ) (p : Place) (xs : List Place) → Reached pool p xs 0 0 0
+unfolding front
+reached-none pool p xs = record { equal = from-start _ _; learnt = refl }
+
+-- the text, and literal j
 pub record Turn (pool : List ℕ) (p : Place) (xs : List Place) (j near pairs : ℕ) (x : Place) : Type 0 where
   pub inside : p .start + p .size ≤ length pool
-  pub learnt : front (bytesAt pool p) (textsOf pool xs) j ≡ record { near = near; pairs = pairs }
+  pub reached : Reached pool p xs j near pairs
   pub there : nth xs j ≡ some x
   pub stands : Stands pool (textsOf pool xs) j x
 
@@ -126,10 +155,10 @@ module _ {pool : List ℕ} {p : Place} {xs : List Place} {j near pairs : ℕ} {x
   u = textOf pool x
 
   abbrev pub asked : Bool
-  asked = alike (p .size) (record { near = near; pairs = pairs }) (x .size % 131072) (frontOf x)
+  asked = test p x near pairs
 
   is-asked : alike (length v) (front v ts j) (length u) (front u ts j) ≡ asked
-  is-asked = rw (t .learnt, ← t .stands .front, part-length pool p (t .inside), part-length pool (placeOf x) (t .stands .inside))
+  is-asked = rw (t .reached .learnt, ← t .stands .front, part-length pool p (t .inside), part-length pool (placeOf x) (t .stands .inside))
 
   text-there : getD ts j [] ≡ u
   unfolding nth
@@ -146,20 +175,20 @@ module _ {pool : List ℕ} {p : Place} {xs : List Place} {j near pairs : ℕ} {x
 
     pub known : (i : ℕ) → i < 2 * pairs → getD pool (x .start % 131072 + i) 0 ≡ getD pool (p .start + i) 0
     known i h =
-        let e : front v ts j .pairs ≡ pairs = ap (λ (f : Front). f .pairs) (t .learnt) in
+        let e : front v ts j .pairs ≡ pairs = ap (λ (f : Front). f .pairs) (t .reached .learnt) in
         let l : i < p .size = omega (arith, front-short ts v j, part-length pool p (t .inside)) in
         let s = same-size in
         sym (part-at pool (placeOf x) i (omega arith)) ∙ alike-agrees ts v u j (is-asked ∙ yes) i (omega arith) ∙ part-at pool p i l
 
     module _ (k : ℕ) (equal : (i : ℕ) → i < k → getD pool (x .start % 131072 + i) 0 ≡ getD pool (p .start + i) 0) where
-      pub turn-hit : k ≡ p .size → sameText v u ≡ true
-      turn-hit e = parts-same pool p (placeOf x) (t .inside) (t .stands .inside) same-size (λ i h. equal i (omega arith))
+      pub turn-hit : k ≡ p .size → firstEqual v ts ≡ some j
+      turn-hit e = t .reached .equal ∙ from-hit pool v xs j (t .there) (parts-same pool p (placeOf x) (t .inside) (t .stands .inside) same-size (λ i h. equal i (omega arith)))
 
       module _ (short : k < p .size) (differ : getD pool (x .start % 131072 + k) 0 ≡ getD pool (p .start + k) 0 → ⊥) where
-        pub turn-miss : sameText v u ≡ false
+        turn-miss : sameText v u ≡ false
         turn-miss = parts-differ pool p (placeOf x) (t .inside) (t .stands .inside) same-size k short differ
 
-        pub turn-front : front v ts (suc j) ≡ record { near = j; pairs = k / 2 }
+        turn-front : front v ts (suc j) ≡ record { near = j; pairs = k / 2 }
         turn-front =
             let s = same-size in
             let m = part-length pool p (t .inside) in
@@ -169,21 +198,41 @@ module _ {pool : List ℕ} {p : Place} {xs : List Place} {j near pairs : ℕ} {x
             (λ i h. part-at pool p i (omega arith) ∙ sym (equal i h) ∙ sym (part-at pool (placeOf x) i (omega arith)))
             (λ e. differ (sym (part-at pool (placeOf x) k (omega arith)) ∙ sym e ∙ part-at pool p k short)))
 
-  module _ (no : asked ≡ false) where
-    pub turn-other : sameText v u ≡ false
-    turn-other = unequal v u (unlike ts v u j (is-asked ∙ no))
+        pub turn-met : Reached pool p xs (j + 1) j (k / 2)
+        turn-met = record { equal = t .reached .equal ∙ from-miss pool v xs j (t .there) turn-miss; learnt = rw (add-one j) turn-front }
 
-    pub turn-passed : front v ts (suc j) ≡ record { near = near; pairs = pairs }
-    turn-passed = front-passed ts v u j text-there (is-asked ∙ no) ∙ t .learnt
+  -- a literal that is not alike is passed
+  pub turn-passed : asked ≡ false → Reached pool p xs (j + 1) near pairs
+  turn-passed e = record {
+    equal = t .reached .equal ∙ from-miss pool v xs j (t .there) (unequal v u (unlike ts v u j (is-asked ∙ e)));
+    learnt = rw (add-one j) (front-passed ts v u j text-there (is-asked ∙ e) ∙ t .reached .learnt);
+  }
 
-pub front-begins : (v : Text) (ts : List Text) {size : ℕ} → size < 131072 → front v ts 0 ≡ record { near = 0; pairs = size / 131072 }
-unfolding front
-front-begins v ts {size} h = let e : 0 ≡ size / 131072 = omega arith in ap (λ (n : ℕ). record { near = 0; pairs = n }) e
+-- all literals are passed that have another second word
+module _ {pool : List ℕ} {p : Place} {xs : List Place} {near pairs j k : ℕ} (inside : p .start + p .size ≤ length pool)
+    (stands : (i : ℕ) (x : Place) → nth xs i ≡ some x → Stands pool (textsOf pool xs) i x) (s : Seeks xs j (secondWord (p .size) near pairs) k) where
+  passed : (d : ℕ) → j + d ≤ k → Reached pool p xs j near pairs → Reached pool p xs (j + d) near pairs
+  passed zero h r = rw add-zero r
+  passed (suc d) h r =
+      let m = s .most in
+      let i : ℕ = j + d in
+      let e : i + 1 ≡ j + suc d = omega arith in
+      nth-there xs i (omega arith)
+      (λ x q. let t : Turn pool p xs i near pairs x = record { inside = inside; reached = passed d (omega arith) r; there = q; stands = stands i x q } in
+      rw e at (turn-passed t (second-other p x near pairs (s .small i x (omega arith) (omega arith) q) (s .passed i x (omega arith) (omega arith) q))))
+
+  pub reached-on : Reached pool p xs j near pairs → Reached pool p xs k near pairs
+  reached-on r =
+      let l = s .least in
+      let e : j + (k - j) ≡ k = omega arith in
+      rw e at (passed (k - j) (omega arith) r)
 
 -- the words to keep the text by
-pub keeps : (pool : List ℕ) (ts : List Text) (p : Place) {near : ℕ} (word : ℕ) → p .start < 131072 → word % 131072 ≡ p .size → front (bytesAt pool p) ts (length ts) ≡ record { near = near; pairs = word / 131072 }
-    → Keeps pool ts p (record { start = p .start + 131072 * near; size = word })
-keeps pool ts p {near} word h s e =
-    let a : (p .start + 131072 * near) % 131072 ≡ p .start = omega arith in
-    let b : (p .start + 131072 * near) / 131072 ≡ near = omega arith in
-    record { place = rw (a, s); front = rw b (sym e) }
+pub keeps : (pool : List ℕ) (ts : List Text) (p : Place) {near pairs word : ℕ} → p .start < 131072 → p .size < 131072 → near < 4096 → word ≡ secondWord (p .size) near pairs
+    → front (bytesAt pool p) ts (length ts) ≡ record { near = near; pairs = pairs } → Keeps pool ts p (record { start = p .start + 131072 * (pairs / 8); size = word })
+keeps pool ts p {near} {pairs} {word} hp hs hn q e =
+    let a : (p .start + 131072 * (pairs / 8)) % 131072 ≡ p .start = omega arith in
+    let c : (p .start + 131072 * (pairs / 8)) / 131072 ≡ pairs / 8 = omega arith in
+    let w = word-parts (p .size) near pairs word hs hn q in
+    let m : 8 * ((p .start + 131072 * (pairs / 8)) / 131072) + word / 131072 / 4096 ≡ pairs = omega (arith, c, w .2) in
+    record { place = rw (a, w .0); front = rw (m, w .1) (sym e) }

@@ -3,7 +3,7 @@ use mathlib.Core.Path.{_≡_, refl, sym, ap, _∙_}
 use mathlib.Core.List.{List, [], _∷_, _++_, map, map-append}
 use mathlib.Core.Logic.{_⊎_, inl, inr, ⊎-elim}
 use mathlib.Core.Option.{Option, none, some}
-use Prim.Native.Nat.{ℕ, zero, suc, _+_, _/_, _%_, _<_, _≤_, _^_}
+use Prim.Native.Nat.{ℕ, zero, suc, _+_, _*_, _/_, _%_, _<_, _≤_, _^_}
 use native.Mathlib.Omega.{arith}
 use lib.ListN.{length, getD, length-map}
 use Rattle.format.specs.Row.{Place, Text, bytesAt}
@@ -12,12 +12,16 @@ use Rattle.search.specs.Front.{Front, front, front-before}
 use Rattle.search.specs.declared.Found.{Found}
 use Rattle.search.specs.declared.Found.the-variants.{Number, Nothing}
 
--- A literal is kept as two words. Their lower 17 bits are its place, and the upper ones its front behind the literals before it.
+-- A literal is kept as two words. Their lower 17 bits are its place, and the upper ones its front behind the literals before it: in the second word
+-- 12 bits of `near` and the lowest 3 of `pairs`, which nearly always tell two fronts apart, and in the first word the rest of `pairs`.
 abbrev pub placeOf : Place → Place
 placeOf x = record { start = x .start % 131072; size = x .size % 131072 }
 
 abbrev pub frontOf : Place → Front
-frontOf x = record { near = x .start / 131072; pairs = x .size / 131072 }
+frontOf x = record { near = x .size / 131072 % 4096; pairs = 8 * (x .start / 131072) + x .size / 131072 / 4096 }
+
+abbrev pub secondWord : ℕ → ℕ → ℕ → ℕ
+secondWord size near pairs = size + 131072 * (near + 4096 * (pairs % 8))
 
 abbrev pub textOf : List ℕ → Place → Text
 textOf pool x = bytesAt pool (placeOf x)

@@ -1,13 +1,12 @@
 // The earlier literal of a key that has the same bytes as a text.
 ghost use mathlib.Core.Path.{_≡_};
 ghost use mathlib.Core.List.{[]};
-ghost use Prim.Native.Nat.{_+_, _/_, _%_, _<_, _≤_};
+ghost use Prim.Native.Nat.{_+_, _<_, _≤_, _^_};
 ghost use lib.ListN.{length, getD};
 ghost use Rattle.format.specs.Row.{bytesAt};
 ghost use Rattle.format.specs.Write.{firstEqual};
 ghost use Rattle.store.specs.Words.{storeOf, Good};
-ghost use Rattle.search.specs.Front.{alike as alikeOf};
-ghost use Rattle.search.specs.Search.{number, Inside, Small, Kept, textsOf};
+ghost use Rattle.search.specs.Search.{number, secondWord, Inside, Small, Kept, textsOf};
 
 // A kept word has a place in its bits below this one, and a part of the front above.
 const SPAN: usize = 131072;
@@ -18,14 +17,12 @@ pub enum Found {
     Nothing(usize, usize),
 }
 
-// Whether a kept literal may equal a text that was compared with literal `near` last. `word` has the text's size and the equal pairs.
-fn alike(first: usize, second: usize, near: usize, word: usize) -> bool
-    ensures { λ r. ⌜ r ≡ alikeOf (word % 131072) (record { near = near; pairs = word / 131072 }) (second % 131072) (record { near = first / 131072; pairs = second / 131072 }) ⌝ }
+// The second word to keep a text by. Nearly always it tells whether a literal may be equal.
+fn second_word(size: usize, near: usize, pairs: usize) -> usize
+    requires { ⌜ (size < 131072) × (near < 4096) ⌝ }
+    ensures { λ r. ⌜ (r ≡ secondWord size near pairs) × (r < 2 ^ 32) ⌝ }
 {
-    if second != word {
-        return false;
-    }
-    first / SPAN == near
+    size + SPAN * (near + 4096 * (pairs % 8))
 }
 
 // The number of the key's first literal that equals the `size` bytes of the pool from `start`.
@@ -38,17 +35,14 @@ pub fn choose(pool: &[u8], work: &[u32], key: usize, start: usize, size: usize) 
 {
     let n = store::count(work, key);
     let mut near = 0;
-    let mut word = size;
-    let mut at = 0;
-    let mut j = 0;
+    let mut pairs = 0;
+    let mut j = store::seek(work, key, 0, second_word(size, near, pairs));
     'search: while j < n {
-        at = store::cell(work, key, j, at);
-        let literal = store::get_at(work, key, j, at);
+        let literal = store::get(work, key, j);
         let first = literal.start;
-        let second = literal.size;
-        if alike(first, second, near, word) {
+        if first / SPAN == pairs / 8 {
             let from = first % SPAN;
-            let mut k = 2 * (word / SPAN);
+            let mut k = 2 * pairs;
             loop {
                 if k == size {
                     break 'search;
@@ -59,13 +53,13 @@ pub fn choose(pool: &[u8], work: &[u32], key: usize, start: usize, size: usize) 
                 k += 1;
             }
             near = j;
-            word = size + SPAN * (k / 2);
+            pairs = k / 2;
         }
-        j += 1;
+        j = store::seek(work, key, j + 1, second_word(size, near, pairs));
     }
     if j < n {
         Found::Number(j)
     } else {
-        Found::Nothing(start + SPAN * near, word)
+        Found::Nothing(start + SPAN * (pairs / 8), second_word(size, near, pairs))
     }
 }

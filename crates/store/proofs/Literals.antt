@@ -1,7 +1,7 @@
 -- Literals: where one stands, that there is always a page for the next, and what one more makes of them.
 use mathlib.Core.Path.{_≡_, sym, ap, ap₂, _∙_}
 use mathlib.Core.List.{List, [], _∷_, _++_}
-use mathlib.Core.Option.{some}
+use mathlib.Core.Option.{some, Option·some-injective}
 use Prim.Native.Nat.{ℕ, _+_, _-_, _*_, _/_, _%_, _<_, _≤_}
 use native.Mathlib.Omega.{arith}
 use native.Mathlib.Numerals.{add-one}
@@ -12,7 +12,8 @@ use Rattle.format.specs.Read.{nth, total}
 use Rattle.laws.specs.Facts.{by-eq}
 use Rattle.store.specs.Lists.{upto, upto-length, upto-getD, upto-nth, upto-ext, upto-snoc, upto-addAt, upto-total, sum-ext, sum-ge, sum-at, sum-pages}
 use Rattle.store.specs.Store.{added}
-use Rattle.store.specs.Words.{word, taken, allOf, countOf, pages, pageOf, cellAt, cellOf, placeAt, literalOf, literalsOf, storeOf, GoodLiterals, Good, Changes, nextPage, Written}
+use Rattle.store.specs.Laws.{nth-below}
+use Rattle.store.specs.Words.{word, taken, allOf, countOf, pages, pageOf, cellAt, cellOf, placeAt, literalOf, literalsOf, storeOf, GoodLiterals, Good, Changes, nextPage, Written, Scans}
 use Rattle.store.proofs.Stores.{skip, hit, reading-eq, place-eq, store-eq, slots-below}
 
 literals-length : (w : List ℕ) (k : ℕ) → length (literalsOf w k) ≡ countOf w k
@@ -29,6 +30,11 @@ count-is w k h = sym (ap length (literals-at w k h) ∙ literals-length w k)
 literal-is : (w : List ℕ) (k j : ℕ) → k < 32 → j < countOf w k → nth (getD (storeOf w .literals) k []) j ≡ some (literalOf w k j)
 unfolding literalsOf
 literal-is w k j h b = ap (λ (xs : List Place). nth xs j) (literals-at w k h) ∙ upto-nth (λ i. literalOf w k i) (countOf w k) j b
+
+pub size-is : (w : List ℕ) (k j : ℕ) → k < 32 → (x : Place) → nth (getD (storeOf w .literals) k []) j ≡ some x → x .size ≡ word w (cellOf w k j + 1)
+size-is w k j h x e =
+    let b = nth-below _ j e in
+    ap (λ (y : Place). y .size) (Option·some-injective x (literalOf w k j) (sym e ∙ literal-is w k j h (omega (arith, count-is w k h))))
 
 pub total-is : (w : List ℕ) → GoodLiterals w → allOf w ≡ total (storeOf w .literals)
 unfolding storeOf
@@ -251,19 +257,30 @@ module _ (w : List ℕ) (good : Good w) (k j : ℕ) (hk : k < 32) (h : j < lengt
   pub get-in : (j < 4096) × (pageOf w k (j / 64) < 96)
   get-in = (omega (arith, counted, count-most w (good .literals) k hk, good .literals .most), page-most w (good .literals) k j hk counted)
 
-  pub cell-in : cellOf w k j + 1 < 16384
-  cell-in = omega (arith, get-in .1)
-
   pub get-is : {at s l : ℕ} → at ≡ cellOf w k j → s ≡ word w at → l ≡ word w (at + 1) → nth (getD (storeOf w .literals) k []) j ≡ some (record { start = s; size = l })
   get-is e a b = rw (a, b, e) (literal-is w k j hk counted)
 
--- within a page literals stand side by side
-pub cell-next : (w : List ℕ) (k j : ℕ) {before : ℕ} → (j % 64 ≡ 0 → ⊥) → ((i : ℕ) → j ≡ i + 1 → before ≡ cellOf w k i) → before + 2 ≡ cellOf w k j
-cell-next w k j n h =
-    let e = h (j - 1) (omega arith) in
-    let q : pageOf w k ((j - 1) / 64) ≡ pageOf w k (j / 64) = ap (pageOf w k) (let d : (j - 1) / 64 ≡ j / 64 = omega arith in d) in
-    let m : j % 64 ≡ (j - 1) % 64 + 1 = omega arith in
-    omega arith
+-- a look at the cells of a page, from that of literal i on
+module _ (w : List ℕ) (k i : ℕ) {from n size r : ℕ} (hk : k < 32) (inside : i + n ≤ length (getD (storeOf w .literals) k [])) (page : i % 64 + n ≤ 64) (at : from ≡ cellOf w k i) (s : Scans w from n size r) where
+  abbrev xs : List Place
+  xs = getD (storeOf w .literals) k []
+
+  -- within a page literals stand side by side
+  size-on : (j : ℕ) (x : Place) → j < n → nth xs (i + j) ≡ some x → x .size ≡ word w (from + 2 * j + 1)
+  size-on j x h e =
+      let p : pageOf w k ((i + j) / 64) ≡ pageOf w k (i / 64) = ap (pageOf w k) (let d : (i + j) / 64 ≡ i / 64 = omega arith in d) in
+      let m : (i + j) % 64 ≡ i % 64 + j = omega arith in
+      let a : cellOf w k (i + j) ≡ from + 2 * j = omega arith in
+      size-is w k (i + j) hk x e ∙ ap (λ (c : ℕ). word w (c + 1)) a
+
+  pub scan-passed : (j : ℕ) (x : Place) → i ≤ j → j < i + r → nth xs j ≡ some x → x .size ≡ size → ⊥
+  scan-passed j x h b e q =
+      let m = s .most in
+      let d : i + (j - i) ≡ j = omega arith in
+      s .passed (j - i) (omega arith) (sym (size-on (j - i) x (omega arith) (rw d e)) ∙ q)
+
+  pub scan-here : r < n → (x : Place) → nth xs (i + r) ≡ some x → x .size ≡ size
+  scan-here h x e = size-on r x h e ∙ s .here h
 
 module _ (w : List ℕ) (good : Good w) (key : ℕ) (hk : key < 32) (room : total (storeOf w .literals) < 4096) {n p t a b : ℕ}
     (en : n ≡ length (getD (storeOf w .literals) key [])) (ep : p ≡ nextPage w key) (et : t ≡ taken w) (ea : a ≡ pages (n + 1)) (eb : b ≡ pages n) where

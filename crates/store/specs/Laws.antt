@@ -12,6 +12,7 @@ use Rattle.format.specs.Answer.{Answer, ok, refuse, _>>=_}
 use Rattle.format.specs.Row.{Place}
 use Rattle.format.specs.Read.{Source, Reading, atBlock, nth, noLiterals}
 use Rattle.format.specs.Write.{addBytes}
+use Rattle.laws.specs.Facts.{by-lt}
 use Rattle.store.specs.Lists.{upto, sumTo, upto-ext, upto-replicate, sum-ext}
 use Rattle.store.specs.Store.{empty, lookup, change, put, moveTo}
 use Rattle.store.specs.Meaning.{slot}
@@ -135,6 +136,15 @@ module _ {X : Type 0} where
   nth-beyond [] j h = refl
   nth-beyond (x ∷ xs) zero h = absurd (omega arith)
   nth-beyond (x ∷ xs) (suc j) h = nth-beyond xs j (omega arith)
+
+  pub nth-below : (xs : List X) (j : ℕ) {x : X} → nth xs j ≡ some x → j < length xs
+  nth-below xs j e = by-lt j (length xs) (λ h. h) (λ h. not-some (sym (nth-beyond xs j h) ∙ e))
+
+  pub nth-there : {P : Type 0} (xs : List X) (j : ℕ) → j < length xs → ((x : X) → nth xs j ≡ some x → P) → P
+  unfolding nth
+  nth-there [] j h f = absurd (omega arith)
+  nth-there (x ∷ xs) zero h f = f x refl
+  nth-there (x ∷ xs) (suc j) h f = nth-there xs j (omega arith) f
 
   pub drop-nth : (xs : List X) (j : ℕ) {x : X} → nth xs j ≡ some x → drop j xs ≡ x ∷ drop (suc j) xs
   unfolding nth

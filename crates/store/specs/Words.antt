@@ -15,11 +15,12 @@
 use mathlib.Core.Path.{_≡_}
 use mathlib.Core.Bool.{cond}
 use mathlib.Core.List.{List}
-use Prim.Native.Nat.{ℕ, suc, _+_, _*_, _/_, _%_, _<_, _≤_, min}
+use mathlib.Core.Option.{some}
+use Prim.Native.Nat.{ℕ, suc, _+_, _*_, _/_, _%_, _<_, _≤_, _^_, min}
 use lib.Dec.{eqb}
 use lib.ListN.{length, getD}
 use Rattle.format.specs.Row.{Place}
-use Rattle.format.specs.Read.{Reading}
+use Rattle.format.specs.Read.{Reading, nth}
 use Rattle.store.specs.Lists.{upto, sumTo}
 use Rattle.store.specs.Store.{Store}
 
@@ -123,3 +124,17 @@ pub record Written (w w′ : List ℕ) (key n p q : ℕ) (x : Place) : Type 0 wh
   pub pages : (k i : ℕ) → k < 32 → i < 64 → (k ≡ key → i ≡ n / 64 → ⊥) → pageOf w′ k i ≡ pageOf w k i
   pub here : placeAt w′ (cellAt p n) ≡ x
   pub cells : (p′ j : ℕ) → p′ < 96 → (p′ ≡ p → j % 64 ≡ n % 64 → ⊥) → placeAt w′ (cellAt p′ j) ≡ placeAt w (cellAt p′ j)
+
+-- Of the n cells from `from` on, the first r have another size, and the one behind them has it, if there is one.
+pub record Scans (w : List ℕ) (from n size r : ℕ) : Type 0 where
+  pub most : r ≤ n
+  pub passed : (i : ℕ) → i < r → word w (from + 2 * i + 1) ≡ size → ⊥
+  pub here : r < n → word w (from + 2 * r + 1) ≡ size
+
+-- From j up to r the literals have another size, and r has it, if there is one.
+pub record Seeks (literals : List Place) (j size r : ℕ) : Type 0 where
+  pub least : j ≤ r
+  pub most : r ≤ length literals
+  pub passed : (i : ℕ) (x : Place) → j ≤ i → i < r → nth literals i ≡ some x → x .size ≡ size → ⊥
+  pub small : (i : ℕ) (x : Place) → j ≤ i → i < r → nth literals i ≡ some x → x .size < 2 ^ 32
+  pub here : (x : Place) → nth literals r ≡ some x → x .size ≡ size

@@ -3,11 +3,11 @@
 ghost use mathlib.Core.Path.{_≡_};
 ghost use mathlib.Core.List.{[]};
 ghost use mathlib.Core.Option.{none, some};
-ghost use Prim.Native.Nat.{ℕ, _+_, _*_, _/_, _%_, _<_, _≤_, _^_};
+ghost use Prim.Native.Nat.{_+_, _*_, _%_, _<_, _≤_, _^_};
 ghost use lib.ListN.{length, getD};
 ghost use Rattle.format.specs.Read.{nth, total as totalOf};
 ghost use Rattle.store.specs.Store.{empty, lookup, opened, advanced, rested, added, unnumbered};
-ghost use Rattle.store.specs.Words.{storeOf, Good, Changes, pages as pagesOf, allOf, cellOf, nextPage, Written};
+ghost use Rattle.store.specs.Words.{storeOf, Good, Changes, pages as pagesOf, allOf, cellOf, nextPage, Written, Scans, Seeks};
 ghost use Rattle.store.specs.Meaning.{place, reading, touched, slot, Small};
 
 // The keys of the slots, in order.
@@ -199,36 +199,70 @@ pub fn count(work: &[u32], key: usize) -> usize
     wide(work[COUNT + key])
 }
 
+// Where literal j of a key stands. The rest of its page lies within the work.
+fn cell(work: &[u32], key: usize, j: usize) -> usize
+    requires { ⌜ (Good (now work)) × (key < 32) × (j < length (getD (storeOf (now work) .literals) key [])) ⌝ }
+    ensures { λ r. ⌜ (r ≡ cellOf (now (work .entry)) key j) × (r + 128 ≤ 16384 + 2 * (j % 64)) ⌝ }
+{
+    CELL + 128 * wide(work[PAGE + 64 * key + j / 64]) + 2 * (j % 64)
+}
+
 // Literal j of a key.
 pub fn get(work: &[u32], key: usize, j: usize) -> Place
     requires { ⌜ (Good (now work)) × (key < 32) × (j < length (getD (storeOf (now work) .literals) key [])) ⌝ }
     ensures { λ r. ⌜ nth (getD (storeOf (now (work .entry)) .literals) key []) j ≡ some (place r) ⌝ }
     ensures { λ r. ⌜ (r .start < 2 ^ 32) × (r .size < 2 ^ 32) ⌝ }
 {
-    let p = wide(work[PAGE + 64 * key + j / 64]);
-    get_at(work, key, j, CELL + 128 * p + 2 * (j % 64))
-}
-
-// Where literal j of a key stands, if the one before it stands at `before`. So a search of all of them looks up each page once.
-pub fn cell(work: &[u32], key: usize, j: usize, before: usize) -> usize
-    requires { ⌜ (Good (now work)) × (key < 32) × (j < length (getD (storeOf (now work) .literals) key [])) × ((i : ℕ) → j ≡ i + 1 → before ≡ cellOf (now work) key i) ⌝ }
-    ensures { λ r. ⌜ r ≡ cellOf (now (work .entry)) key j ⌝ }
-{
-    if j % 64 == 0 {
-        return CELL + 128 * wide(work[PAGE + 64 * key + j / 64]);
-    }
-    before + 2
-}
-
-// Literal j of a key, which stands at `at`.
-pub fn get_at(work: &[u32], key: usize, j: usize, at: usize) -> Place
-    requires { ⌜ (Good (now work)) × (key < 32) × (j < length (getD (storeOf (now work) .literals) key [])) × (at ≡ cellOf (now work) key j) ⌝ }
-    ensures { λ r. ⌜ nth (getD (storeOf (now (work .entry)) .literals) key []) j ≡ some (place r) ⌝ }
-    ensures { λ r. ⌜ (r .start < 2 ^ 32) × (r .size < 2 ^ 32) ⌝ }
-{
+    let at = cell(work, key, j);
     let start = wide(work[at]);
     let size = wide(work[at + 1]);
     Place { start, size }
+}
+
+// How many literals from j on, of n, stand on the page of j.
+fn on_page(j: usize, n: usize) -> usize
+    requires { ⌜ j < n ⌝ }
+    ensures { λ r. ⌜ (0 < r) × (j + r ≤ n) × (j % 64 + r ≤ 64) ⌝ }
+{
+    let rest = 64 - j % 64;
+    if n - j < rest {
+        return n - j;
+    }
+    rest
+}
+
+// How many of n cells stand before the first that has this size.
+fn scan(work: &[u32], from: usize, n: usize, size: usize) -> usize
+    requires { ⌜ (from + 2 * n ≤ length (now work)) × (from + 2 * n ≤ 16384) ⌝ }
+    ensures { λ r. ⌜ Scans (now (work .entry)) from n size r ⌝ }
+{
+    let mut i = 0;
+    while i < n {
+        if wide(work[from + 2 * i + 1]) == size {
+            return i;
+        }
+        i += 1;
+    }
+    n
+}
+
+// The first literal of a key from j on that has this size, or how many there are, where none has.
+pub fn seek(work: &[u32], key: usize, j: usize, size: usize) -> usize
+    requires { ⌜ (Good (now work)) × (key < 32) × (j ≤ length (getD (storeOf (now work) .literals) key [])) ⌝ }
+    ensures { λ r. ⌜ Seeks (getD (storeOf (now (work .entry)) .literals) key []) j size r ⌝ }
+{
+    let n = count(work, key);
+    let mut i = j;
+    while i < n {
+        let there = on_page(i, n);
+        let from = cell(work, key, i);
+        let passed = scan(work, from, there, size);
+        i += passed;
+        if passed < there {
+            return i;
+        }
+    }
+    n
 }
 
 // How many pages so many literals of a key take.

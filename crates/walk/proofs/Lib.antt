@@ -3,3 +3,4 @@ pub mod Fronts
 pub mod Values
 pub mod Loops
 pub mod Runs
+pub mod Descents

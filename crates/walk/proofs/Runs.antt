@@ -2,22 +2,27 @@
 use mathlib.Core.Path.{_≡_, refl, sym, ap, _∙_, subst, subst₂}
 use mathlib.Core.Bool.{Bool, true, false}
 use mathlib.Core.List.{List, [], _++_, append-nil}
-use Prim.Native.Nat.{ℕ, _-_}
+use Prim.Native.Nat.{ℕ, _+_, _-_, _≤_}
+use native.Mathlib.Omega.{arith}
 use lib.ListN.{length}
 use Rattle.format.specs.Answer.{Answer, ok, refuse, _>>=_}
-use Rattle.format.specs.Table.{nodeAt}
+use Rattle.format.specs.Table.{nodeAt, omittable, Node, Fields, noField, field, Held}
 use Rattle.format.specs.Row.{Place, Row}
-use Rattle.format.specs.Read.{inMessage, State, Read, entries}
+use Rattle.format.specs.Read.{inMessage, State, Read, entries, all, fieldCount}
 use Rattle.laws.specs.Facts.{by-bool}
+use Rattle.laws.specs.Tree.{depthFields}
+use Rattle.laws.specs.Kinds.{by-field}
 use Rattle.label.specs.declared.cursor.Cursor.{Cursor}
 use Rattle.pieces.specs.Pieces.{Inside}
 use Rattle.leaf.specs.declared.Step.{Step}
 use Rattle.leaf.specs.declared.Step.the-variants.{Done, Refused}
-use Rattle.leaf.specs.State.{Ready}
+use Rattle.leaf.specs.State.{Ready, Walks}
 use Rattle.leaf.specs.Does.{along}
-use Rattle.typed.specs.Typed.{Sized, FitsNode}
+use Rattle.typed.specs.Typed.{Sized, heldIn, FitsNode, FitFields}
+use Rattle.typed.specs.Nodes.{first-of, first-depth}
 use Rattle.typed.specs.Run.{FitRun, absentIn, nextIn}
-use Rattle.walk.specs.Walk.{ReadsValue, ReadsFields, ReadsRun}
+use Rattle.walk.specs.Opening.{valueAt}
+use Rattle.walk.specs.Walk.{ReadsValue, ReadsFields, ReadsEntries, ReadsRun}
 use Rattle.walk.proofs.Loops.{EntriesAt, entries-begin, entries-fits, entries-not, entries-again, entries-end, FieldsAt, fields-begin, fields-fits, fields-not, fields-again, fields-end}
 
 pub record RunAt (table m w₀ l₀ : List ℕ) (modes node₀ : ℕ) (repeated : Bool) (count : ℕ) (c₀ : Cursor) (n₀ : ℕ) (w l : List ℕ) (k node : ℕ) (c : Cursor) (n : ℕ) : Type 0 where
@@ -86,13 +91,39 @@ module _ (table m w₀ l₀ : List ℕ) (modes node₀ : ℕ) (repeated : Bool) 
 pub no-fields : (table m w l : List ℕ) (modes node count : ℕ) (c : Cursor) (n : ℕ) → Ready m w → Inside m c → Sized table → count ≡ 0 → ReadsFields m w w l l c n (Done c n) table modes node count
 no-fields table m w l modes node count c n g i whole z = fields-end table m w l modes node count c n w l count node c n (fields-begin table m w l modes node count c n g i) whole z
 
+-- no rows after these
+with-none : {m : List ℕ} (a : Answer (List (Row Place) × State (inMessage m))) → (a >>= (λ x. ok (x .0 ++ [], x .1))) ≡ a
+unfolding _>>=_
+with-none (ok x) = ap (λ rows. ok (rows, x .1)) (append-nil (x .0))
+with-none (refuse i j) = refl
+
 entries-one : {m : List ℕ} (f : Read (inMessage m)) (s : State (inMessage m)) → entries (inMessage m) 1 f s ≡ f s
 unfolding entries _>>=_
-entries-one {m} f s = go (f s)
-  where
-    go : (a : Answer (List (Row Place) × State (inMessage m))) → (a >>= (λ x. ok (x .0 ++ [], x .1))) ≡ a
-    go (ok x) = ap (λ rows. ok (rows, x .1)) (append-nil (x .0))
-    go (refuse i j) = refl
+entries-one f s = with-none (f s)
+
+all-one : {m : List ℕ} (modes : ℕ) (held : ℕ → Held) (o : Bool) (v : Node) (vs : Fields) (path : ℕ) (s : State (inMessage m)) → fieldCount vs ≡ 0
+    → all (inMessage m) modes held (field o v vs) path s ≡ valueAt m modes held path o v s
+unfolding all fieldCount _>>=_
+all-one {m} modes held o v noField path s z = with-none (valueAt m modes held path o v s)
+all-one modes held o v (field o′ u us) path s z = absurd (omega arith)
 
 pub one-entry : {m w w′ l l′ table : List ℕ} {c : Cursor} {n modes node : ℕ} {r : Step} → ReadsRun m w w′ l l′ c n r table modes node true 1 → ReadsValue m w w′ l l′ c n r table modes node false
 one-entry x = record { does = λ v path h d. along (sym (entries-one _ _)) (x .entries refl .does v path h d) }
+
+pub as-entry : {m w w′ l l′ table : List ℕ} {c : Cursor} {n modes node : ℕ} {r : Step} → ReadsValue m w w′ l l′ c n r table modes node false → ReadsEntries m w w′ l l′ c n r table modes node 1
+as-entry x = record { does = λ v path h d. along (entries-one _ _) (x .does v path h d) }
+
+pub as-field : {m w w′ l l′ table : List ℕ} {c : Cursor} {n modes node : ℕ} {r : Step} → ReadsValue m w w′ l l′ c n r table modes node (omittable (nodeAt table node)) → ReadsFields m w w′ l l′ c n r table modes node 1
+as-field {m} {w} {w′} {l} {l′} {table} {c} {n} {modes} {node} {r} x = record {
+  does = λ ws path h e d.
+      by-field _ _ _ _ (λ vs. path + depthFields vs ≤ 32 → Walks m w w′ c n l l′ r (all (inMessage m) modes (heldIn table) vs path)) node ws h (λ z. omega arith)
+      (λ v vs k a b i. along (all-one modes (heldIn table) (omittable (nodeAt table node)) v vs path _ (omega arith)) (x .does v path a (omega (arith, first-depth (omittable (nodeAt table node)) v vs .0)))) d;
+}
+
+-- the type of the one field
+pub fits-field : (table w : List ℕ) (left node : ℕ) → FitFields table w left node 1 → FitsNode table w left node
+fits-field table w left node g =
+    let f = first-of table w node (g .types) (g .are) (λ z. omega (arith, g .counted)) in
+    let o = omittable (nodeAt table node) in
+    let e : depthFields (g .types) ≡ depthFields (field o (f .first) (f .others)) = ap depthFields (f .splits) in
+    record { type = f .first; is = f .is; deep = omega (arith, first-depth o (f .first) (f .others) .0, g .deep); most = g .most }

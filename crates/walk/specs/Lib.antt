@@ -1,2 +1,3 @@
+pub mod Descent
 pub mod Opening
 pub mod Walk

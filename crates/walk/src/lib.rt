@@ -12,8 +12,10 @@ ghost use Rattle.typed.specs.Typed.{Sized, FitsNode, FitsWire};
 ghost use Rattle.typed.specs.Run.{FitRun};
 ghost use Rattle.walk.specs.Walk.{ReadsValue, ReadsWire, ReadsRun};
 
+pub mod descent;
 pub mod opening;
 
+use descent::Descent;
 use label::Cursor;
 use label::Label;
 use leaf::Step;
@@ -197,7 +199,7 @@ fn array(
 }
 
 // So many values: entries, which all have the type at `node`, or fields, the first of them at `node`. One loop for both,
-// so that a call is made for what a record or an array holds, and none for each value.
+// so that a call is made for what a record or an array holds, and none for each value, nor for what holds one value alone.
 fn run(
     table: &[u8],
     m: &[u8],
@@ -222,7 +224,11 @@ fn run(
         let omittable = typed::may_be_absent(table, at, repeated);
         let end = typed::next_node(work, at, repeated);
         let start = core;
-        let r = value(table, m, rows, work, modes, at, omittable, start, i, left);
+        let d = descent::descend(table, m, rows, at, omittable, start, i, left);
+        let Descent::To(inner, absent, from, next, path) = d else {
+            return Step::Refused(31);
+        };
+        let r = value(table, m, rows, work, modes, inner, absent, from, next, path);
         let Step::Done(after, written) = r else {
             return again(r);
         };

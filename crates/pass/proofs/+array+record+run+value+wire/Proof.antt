@@ -5,6 +5,8 @@ use denote.Ref.{now}
 use mathlib.Core.Path.{refl, sym, ap, _∙_, subst}
 use Rattle.pass.proofs.Values.{begins, row-holds, mark-holds, word-there, marks-as, opened-gone, opened-here, own-fits, own-onward, fields-fit, entry-fits, value-gone, value-here, wire-boolean, wire-array, record-not, record-then, array-none, array-refused, array-then}
 use Rattle.pass.proofs.Runs.{RunAt, run-begin, run-fits, run-not, run-again, run-end, no-fields}
+use Rattle.pass.specs.Descent.{stepOf}
+use Rattle.pass.proofs.Descents.{led-on, stopped}
 use lib.Dec.{eqb}
 use Prim.Native.Nat.{_+_, _-_, _*_}
 use mir.Syntax.{w64}
@@ -41,6 +43,8 @@ use Rattle.label.proofs.integer_of.Reads as integer-of-reads
 use Rattle.pass.proofs.again.Reads as again-reads
 use Rattle.pass.proofs.below.Reads as below-reads
 use Rattle.pass.proofs.block.Reads as block-reads
+use Rattle.pass.proofs.descent.descend.Reads as descend-reads
+use Rattle.pass.proofs.descent.step.Reads as step-reads
 use Rattle.table.proofs.nodes.argument_at.Reads as argument-at-reads
 use Rattle.table.proofs.nodes.kind_at.Reads as kind-at-reads
 use Rattle.typed.proofs.may_be_absent.Reads as may-be-absent-reads
@@ -103,7 +107,7 @@ abbrev record-uses : ℕ → record-lts.Claims
 record-uses t = (argument-at-reads.Asked, argument-at-reads.Learnt, record-reads.Asked, record-reads.Learnt, again-reads.Asked, again-reads.Learnt, run-below t, run.Post)
 
 abbrev run-uses : ℕ → run-lts.Claims
-run-uses t = (may-be-absent-reads.Asked, may-be-absent-reads.Learnt, next-node-reads.Asked, next-node-reads.Learnt, value-below t, value.Post, again-reads.Asked, again-reads.Learnt)
+run-uses t = (may-be-absent-reads.Asked, may-be-absent-reads.Learnt, next-node-reads.Asked, next-node-reads.Learnt, descend-reads.Asked, descend-reads.Learnt, step-reads.Asked, step-reads.Learnt, value-below t, value.Post, again-reads.Asked, again-reads.Learnt)
 
 abbrev array-uses : ℕ → array-lts.Claims
 array-uses t = (word-at-reads.Asked, word-at-reads.Learnt, integer-of-reads.Asked, integer-of-reads.Learnt, mark-reads.Asked, mark-reads.Learnt, again-reads.Asked, again-reads.Learnt, run-below t, run.Post)
@@ -218,47 +222,98 @@ run-next-node-requires t c κs =
     let x = c3 .loop in
     omega (arith, node-inside _ _ _ _ (run-fits (a .how) (now (a .table)) (now (a .pool)) (now (a .rows)) (now (a .out)) (now (a .work)) (a .node) (a .repeated) (a .count) (a .i) (a .core) (x .out) (x .work) (x .k) (x .at) (x .n) (x .end) (x .inv) (c9 .pre .1 .1) (c9 .pre .1 .2) (c2 .loop-test .taken)) (c9 .pre .1 .1) .0, x .inv .holds .ready .good .whole)
 
-run-value-requires : (t : ℕ) → run-lts.Need-value-requires (run-uses t) (run-at t) run.Post run-Inv-loop run-μ-loop
-run-value-requires t c κs =
-    let c5 = c .before .before .before .before .before in
-    let c6 = c5 .before in
-    let c12 = c6 .before .before .before .before .before .before in
-    let a = c12 .args in
-    let x = c6 .loop in
-    (omega (arith, c12 .pre .0, x .inv .onward), (x .inv .holds, c12 .pre .1 .1, run-fits (a .how) (now (a .table)) (now (a .pool)) (now (a .rows)) (now (a .out)) (now (a .work)) (a .node) (a .repeated) (a .count) (a .i) (a .core) (x .out) (x .work) (x .k) (x .at) (x .n) (x .end) (x .inv) (c12 .pre .1 .1) (c12 .pre .1 .2) (c5 .loop-test .taken)))
+run-descend-requires : (t : ℕ) → run-lts.Need-descend-requires (run-uses t) (run-at t) run.Post run-Inv-loop run-μ-loop
+run-descend-requires t c κs =
+    let c4 = c .before .before .before .before in
+    let c5 = c4 .before in
+    let c11 = c5 .before .before .before .before .before .before in
+    let a = c11 .args in
+    let x = c5 .loop in
+    let f = run-fits (a .how) (now (a .table)) (now (a .pool)) (now (a .rows)) (now (a .out)) (now (a .work)) (a .node) (a .repeated) (a .count) (a .i) (a .core) (x .out) (x .work) (x .k) (x .at) (x .n) (x .end) (x .inv) (c11 .pre .1 .1) (c11 .pre .1 .2) (c4 .loop-test .taken) in
+    (c11 .pre .1 .1, record { work = x .work; holds = x .inv .holds; fits = f })
 
-run-enum-known-r : (t : ℕ) → run-lts.Need-enum-known-r (run-uses t) (run-at t) run.Post run-Inv-loop run-μ-loop
-run-enum-known-r t c = search needs
+run-enum-known-d : (t : ℕ) → run-lts.Need-enum-known-d (run-uses t) (run-at t) run.Post run-Inv-loop run-μ-loop
+run-enum-known-d t c = search needs
 
 run-enum-told : (t : ℕ) → run-lts.Need-enum-told (run-uses t) (run-at t) run.Post run-Inv-loop run-μ-loop
 run-enum-told t c = search needs
 
-run-again-requires : (t : ℕ) → run-lts.Need-again-requires (run-uses t) (run-at t) run.Post run-Inv-loop run-μ-loop
-run-again-requires t c κs = search needs
+run-step-requires : (t : ℕ) → run-lts.Need-step-requires (run-uses t) (run-at t) run.Post run-Inv-loop run-μ-loop
+run-step-requires t c κs = search needs
 
 run-same-length : (t : ℕ) → run-lts.Need-same-length (run-uses t) (run-at t) run.Post run-Inv-loop run-μ-loop
 run-same-length t c =
-    let c7 = c .before .before .before .before .before .before .before in
-    let c14 = c7 .before .before .before .before .before .before .before in
-    c7 .value .kept .1 .1 .1 .0 ∙ c14 .loop .inv .lent
+    let c5 = c .before .before .before .before .before in
+    let c11 = c5 .before .before .before .before .before .before in
+    c5 .descend .kept .1 .1 .1 .0 ∙ c11 .loop .inv .lent
 
 run-same-length-2 : (t : ℕ) → run-lts.Need-same-length-2 (run-uses t) (run-at t) run.Post run-Inv-loop run-μ-loop
-run-same-length-2 t c =
-    let c7 = c .before .before .before .before .before .before .before in
-    let c14 = c7 .before .before .before .before .before .before .before in
-    c7 .value .kept .1 .1 .1 .1 .0 ∙ c14 .loop .inv .worked
+run-same-length-2 t c = c .before .before .before .before .before .before .before .before .before .before .before .loop .inv .worked
 
 run-returns : (t : ℕ) → run-lts.Need-returns (run-uses t) (run-at t) run.Post run-Inv-loop run-μ-loop
 run-returns t c =
     let c1 = c .before in
-    let c7 = c1 .before .before .before .before .before .before in
+    let c5 = c1 .before .before .before .before in
+    let c9 = c5 .before .before .before .before in
+    let c10 = c9 .before in
+    let c11 = c10 .before in
+    let c17 = c11 .before .before .before .before .before .before in
+    let a = c17 .args in
+    let x = c11 .loop in
+    let f = run-fits (a .how) (now (a .table)) (now (a .pool)) (now (a .rows)) (now (a .out)) (now (a .work)) (a .node) (a .repeated) (a .count) (a .i) (a .core) (x .out) (x .work) (x .k) (x .at) (x .n) (x .end) (x .inv) (c17 .pre .1 .1) (c17 .pre .1 .2) (c10 .loop-test .taken) in
+    let y = stopped (a .how) (now (a .table)) (now (a .pool)) (now (a .rows)) (x .out) (x .work) (x .n) (x .end) (x .at) (x .inv .holds) f _ (c5 .descend .ensures) (c1 .enum-told .given .1) in
+    run-not (a .how) (now (a .table)) (now (a .pool)) (now (a .rows)) (now (a .out)) (now (a .work)) (a .node) (a .repeated) (a .count) (a .i) (a .core) (x .out) (x .work) (x .k) (x .at) (x .n) (x .end) (x .inv) (c17 .pre .1 .1) (c10 .loop-test .taken) (c9 .may-be-absent .ensures) (y .3) (y .2) (c .step .ensures ∙ ap stepOf (c1 .enum-told .given .1))
+
+run-value-requires : (t : ℕ) → run-lts.Need-value-requires (run-uses t) (run-at t) run.Post run-Inv-loop run-μ-loop
+run-value-requires t c κs =
+    let c3 = c .before .before .before in
+    let c7 = c3 .before .before .before .before in
     let c12 = c7 .before .before .before .before .before in
     let c13 = c12 .before in
-    let c14 = c13 .before in
-    let c20 = c14 .before .before .before .before .before .before in
-    let a = c20 .args in
-    let x = c14 .loop in
-    run-not (a .how) (now (a .table)) (now (a .pool)) (now (a .rows)) (now (a .out)) (now (a .work)) (a .node) (a .repeated) (a .count) (a .i) (a .core) (x .out) (x .work) (x .k) (x .at) (x .n) (x .end) (x .inv) (c20 .pre .1 .1) (c13 .loop-test .taken) (c12 .may-be-absent .ensures) (c7 .value .ensures) (c1 .enum-told .given .1) (c .again .ensures)
+    let c19 = c13 .before .before .before .before .before .before in
+    let a = c19 .args in
+    let x = c13 .loop in
+    let f = run-fits (a .how) (now (a .table)) (now (a .pool)) (now (a .rows)) (now (a .out)) (now (a .work)) (a .node) (a .repeated) (a .count) (a .i) (a .core) (x .out) (x .work) (x .k) (x .at) (x .n) (x .end) (x .inv) (c19 .pre .1 .1) (c19 .pre .1 .2) (c12 .loop-test .taken) in
+    let y = led-on (a .how) (now (a .table)) (now (a .pool)) (now (a .rows)) (x .out) (x .work) (x .n) (x .end) (x .at) (x .inv .holds) f _ (c7 .descend .ensures) (c3 .d .given .1) in
+    (omega (arith, c19 .pre .0, x .inv .onward, y .0), (y .1 .holds, c19 .pre .1 .1, y .1 .fits))
+
+run-enum-known-r : (t : ℕ) → run-lts.Need-enum-known-r (run-uses t) (run-at t) run.Post run-Inv-loop run-μ-loop
+run-enum-known-r t c = search needs
+
+run-enum-told-2 : (t : ℕ) → run-lts.Need-enum-told-2 (run-uses t) (run-at t) run.Post run-Inv-loop run-μ-loop
+run-enum-told-2 t c = search needs
+
+run-again-requires : (t : ℕ) → run-lts.Need-again-requires (run-uses t) (run-at t) run.Post run-Inv-loop run-μ-loop
+run-again-requires t c κs = search needs
+
+run-same-length-3 : (t : ℕ) → run-lts.Need-same-length-3 (run-uses t) (run-at t) run.Post run-Inv-loop run-μ-loop
+run-same-length-3 t c =
+    let c7 = c .before .before .before .before .before .before .before in
+    let c15 = c7 .before .before .before .before .before .before .before .before in
+    let c21 = c15 .before .before .before .before .before .before in
+    c7 .value .kept .1 .1 .1 .0 ∙ c15 .descend .kept .1 .1 .1 .0 ∙ c21 .loop .inv .lent
+
+run-same-length-4 : (t : ℕ) → run-lts.Need-same-length-4 (run-uses t) (run-at t) run.Post run-Inv-loop run-μ-loop
+run-same-length-4 t c =
+    let c7 = c .before .before .before .before .before .before .before in
+    let c21 = c7 .before .before .before .before .before .before .before .before .before .before .before .before .before .before in
+    c7 .value .kept .1 .1 .1 .1 .0 ∙ c21 .loop .inv .worked
+
+run-returns-2 : (t : ℕ) → run-lts.Need-returns-2 (run-uses t) (run-at t) run.Post run-Inv-loop run-μ-loop
+run-returns-2 t c =
+    let c1 = c .before in
+    let c7 = c1 .before .before .before .before .before .before in
+    let c11 = c7 .before .before .before .before in
+    let c15 = c11 .before .before .before .before in
+    let c19 = c15 .before .before .before .before in
+    let c20 = c19 .before in
+    let c21 = c20 .before in
+    let c27 = c21 .before .before .before .before .before .before in
+    let a = c27 .args in
+    let x = c21 .loop in
+    let f = run-fits (a .how) (now (a .table)) (now (a .pool)) (now (a .rows)) (now (a .out)) (now (a .work)) (a .node) (a .repeated) (a .count) (a .i) (a .core) (x .out) (x .work) (x .k) (x .at) (x .n) (x .end) (x .inv) (c27 .pre .1 .1) (c27 .pre .1 .2) (c20 .loop-test .taken) in
+    let y = led-on (a .how) (now (a .table)) (now (a .pool)) (now (a .rows)) (x .out) (x .work) (x .n) (x .end) (x .at) (x .inv .holds) f _ (c15 .descend .ensures) (c11 .d .given .1) in
+    run-not (a .how) (now (a .table)) (now (a .pool)) (now (a .rows)) (now (a .out)) (now (a .work)) (a .node) (a .repeated) (a .count) (a .i) (a .core) (x .out) (x .work) (x .k) (x .at) (x .n) (x .end) (x .inv) (c27 .pre .1 .1) (c20 .loop-test .taken) (c19 .may-be-absent .ensures) (y .1 .whole (c7 .value .ensures)) (c1 .enum-told2 .given .1) (c .again .ensures)
 
 run-sub-k : (t : ℕ) → run-lts.Need-sub-k (run-uses t) (run-at t) run.Post run-Inv-loop run-μ-loop
 run-sub-k t c = search needs
@@ -270,23 +325,27 @@ run-loop-again : (t : ℕ) → run-lts.Need-loop-again (run-uses t) (run-at t) r
 run-loop-again t c =
     let c1 = c .before in
     let c7 = c1 .before .before .before .before .before .before in
-    let c10 = c7 .before .before .before in
-    let c12 = c10 .before .before in
-    let c13 = c12 .before in
-    let c14 = c13 .before in
-    let c20 = c14 .before .before .before .before .before .before in
-    let a = c20 .args in
-    let x = c14 .loop in
-    run-again (a .how) (now (a .table)) (now (a .pool)) (now (a .rows)) (now (a .out)) (now (a .work)) (a .node) (a .repeated) (a .count) (a .i) (a .core) (x .out) (x .work) (x .k) (x .at) (x .n) (x .end) (x .inv) (c20 .pre .1 .1) (c13 .loop-test .taken) (c12 .may-be-absent .ensures) (c7 .value .ensures) (c20 .pre .1 .2) (c10 .next-node .ensures) (c7 .value .kept .1 .1 .1 .0) (c7 .value .kept .1 .1 .1 .1 .0) (c1 .r .given .1)
+    let c11 = c7 .before .before .before .before in
+    let c15 = c11 .before .before .before .before in
+    let c17 = c15 .before .before in
+    let c19 = c17 .before .before in
+    let c20 = c19 .before in
+    let c21 = c20 .before in
+    let c27 = c21 .before .before .before .before .before .before in
+    let a = c27 .args in
+    let x = c21 .loop in
+    let f = run-fits (a .how) (now (a .table)) (now (a .pool)) (now (a .rows)) (now (a .out)) (now (a .work)) (a .node) (a .repeated) (a .count) (a .i) (a .core) (x .out) (x .work) (x .k) (x .at) (x .n) (x .end) (x .inv) (c27 .pre .1 .1) (c27 .pre .1 .2) (c20 .loop-test .taken) in
+    let y = led-on (a .how) (now (a .table)) (now (a .pool)) (now (a .rows)) (x .out) (x .work) (x .n) (x .end) (x .at) (x .inv .holds) f _ (c15 .descend .ensures) (c11 .d .given .1) in
+    run-again (a .how) (now (a .table)) (now (a .pool)) (now (a .rows)) (now (a .out)) (now (a .work)) (a .node) (a .repeated) (a .count) (a .i) (a .core) (x .out) (x .work) (x .k) (x .at) (x .n) (x .end) (x .inv) (c27 .pre .1 .1) (c20 .loop-test .taken) (c19 .may-be-absent .ensures) (y .1 .whole (c7 .value .ensures)) (c27 .pre .1 .2) (c17 .next-node .ensures) (c7 .value .kept .1 .1 .1 .0 ∙ c15 .descend .kept .1 .1 .1 .0) (c7 .value .kept .1 .1 .1 .1 .0) (c1 .r .given .1)
 
-run-same-length-3 : (t : ℕ) → run-lts.Need-same-length-3 (run-uses t) (run-at t) run.Post run-Inv-loop run-μ-loop
-run-same-length-3 t c = c .before .loop .inv .lent
+run-same-length-5 : (t : ℕ) → run-lts.Need-same-length-5 (run-uses t) (run-at t) run.Post run-Inv-loop run-μ-loop
+run-same-length-5 t c = c .before .loop .inv .lent
 
-run-same-length-4 : (t : ℕ) → run-lts.Need-same-length-4 (run-uses t) (run-at t) run.Post run-Inv-loop run-μ-loop
-run-same-length-4 t c = c .before .loop .inv .worked
+run-same-length-6 : (t : ℕ) → run-lts.Need-same-length-6 (run-uses t) (run-at t) run.Post run-Inv-loop run-μ-loop
+run-same-length-6 t c = c .before .loop .inv .worked
 
-run-returns-2 : (t : ℕ) → run-lts.Need-returns-2 (run-uses t) (run-at t) run.Post run-Inv-loop run-μ-loop
-run-returns-2 t c =
+run-returns-3 : (t : ℕ) → run-lts.Need-returns-3 (run-uses t) (run-at t) run.Post run-Inv-loop run-μ-loop
+run-returns-3 t c =
     let c1 = c .before in
     let c7 = c1 .before .before .before .before .before .before in
     let a = c7 .args in
@@ -544,19 +603,26 @@ pub +array+record+run+value+wire-spec : {M : Type 1} → statement M
     (run-loop-holds t)
     (run-may-be-absent-requires t)
     (run-next-node-requires t)
-    (run-value-requires t)
-    (run-enum-known-r t)
+    (run-descend-requires t)
+    (run-enum-known-d t)
     (run-enum-told t)
-    (run-again-requires t)
+    (run-step-requires t)
     (run-same-length t)
     (run-same-length-2 t)
     (run-returns t)
+    (run-value-requires t)
+    (run-enum-known-r t)
+    (run-enum-told-2 t)
+    (run-again-requires t)
+    (run-same-length-3 t)
+    (run-same-length-4 t)
+    (run-returns-2 t)
     (run-sub-k t)
     (run-loop-less t)
     (run-loop-again t)
-    (run-same-length-3 t)
-    (run-same-length-4 t)
-    (run-returns-2 t))
+    (run-same-length-5 t)
+    (run-same-length-6 t)
+    (run-returns-3 t))
     (λ t. value-lts.spec (value-uses t) (value-at t) value.Post
     (value-kind-at-requires t)
     (value-open-value-requires t)

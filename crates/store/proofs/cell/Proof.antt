@@ -1,8 +1,11 @@
--- `store::cell` meets its contract. Assumes nothing.
+-- `store::cell` meets its contract. The page of a literal is one of those taken, so its words are inside. Assumes nothing.
+use mathlib.Core.Path.{ap}
+use Prim.Native.Nat.{ℕ}
 use native.Mathlib.Omega.{arith}
 use denote.Ref.{now}
 use borrow.Author.Needs.{needs}
-use Rattle.store.proofs.Literals.{get-in, cell-in, cell-next}
+use Rattle.store.specs.Words.{cellAt}
+use Rattle.store.proofs.Literals.{get-in}
 use Rattle.store.proofs.cell.Statement.{statement}
 use Rattle.store.proofs.cell.Tie as tie
 
@@ -20,7 +23,7 @@ mul-wide-2 c = search needs
 
 shared-slice-read-wide : tie.Need-shared-slice-read-wide
 shared-slice-read-wide c =
-    let s = c .before .before .before in
+    let s = c .before .before in
     omega (arith, get-in (now (s .args .work)) (s .pre .0) (s .args .key) (s .args .j) (s .pre .1) (s .pre .2), s .pre .0 .whole)
 
 wide-requires : tie.Need-wide-requires
@@ -32,18 +35,17 @@ mul-result c = search needs
 add-result : tie.Need-add-result
 add-result c = search needs
 
-returns : tie.Need-returns
-returns c = search needs
+mul-result-2 : tie.Need-mul-result-2
+mul-result-2 c = search needs
 
 add-result-2 : tie.Need-add-result-2
-add-result-2 c =
-    let s = c .before .before in
-    omega (arith, cell-next (now (s .args .work)) (s .args .key) (s .args .j) (c .if1 .left) (s .pre .3), cell-in (now (s .args .work)) (s .pre .0) (s .args .key) (s .args .j) (s .pre .1) (s .pre .2))
+add-result-2 c = search needs
 
-returns-2 : tie.Need-returns-2
-returns-2 c =
-    let s = c .before .before in
-    cell-next (now (s .args .work)) (s .args .key) (s .args .j) (c .if1 .left) (s .pre .3)
+returns : tie.Need-returns
+returns c =
+    let s = c .before .before .before in
+    let e = c .wide .ensures .0 in
+    (ap (λ (p : ℕ). cellAt p (s .args .j)) e, omega (arith, get-in (now (s .args .work)) (s .pre .0) (s .args .key) (s .args .j) (s .pre .1) (s .pre .2) .1))
 
 pub cell-spec : {M : Type 1} → statement M
 cell-spec =
@@ -57,6 +59,6 @@ cell-spec =
     wide-requires
     mul-result
     add-result
-    returns
+    mul-result-2
     add-result-2
-    returns-2)
+    returns)

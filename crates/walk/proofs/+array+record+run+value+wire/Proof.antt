@@ -10,6 +10,7 @@ use lib.Dec.{eqb}
 use Prim.Native.Nat.{_+_, _*_}
 use Rattle.typed.specs.Nodes.{node-inside, wire-inside, block-inside, fits-entry}
 use Rattle.typed.specs.Run.{run-entries, run-fields}
+use Rattle.walk.proofs.Descents.{descent-to, descent-full}
 use Rattle.walk.proofs.Runs.{RunAt, run-begin, run-fits, run-not, run-again, run-end, no-fields}
 use Rattle.walk.proofs.Values.{value-refused, value-gone, value-here, opened-inside, value-fits, record-24, record-31, record-then, record-fits, array-23, array-24, array-31, array-then, own-inside, boolean-does}
 use Prim.Native.Nat.{ℕ, _<_}
@@ -42,6 +43,7 @@ use Rattle.walk.proofs.again.Reads as again-reads
 use Rattle.walk.proofs.block.Reads as block-reads
 use Rattle.typed.proofs.may_be_absent.Reads as may-be-absent-reads
 use Rattle.typed.proofs.next_node.Reads as next-node-reads
+use Rattle.walk.proofs.descent.descend.Reads as descend-reads
 use Rattle.walk.proofs.opening.below.Reads as below-reads
 use Rattle.walk.proofs.opening.open.Reads as open-reads
 use Rattle.walk.proofs.+array+record+run+value+wire.{statement}
@@ -102,7 +104,7 @@ abbrev record-uses : ℕ → record-lts.Claims
 record-uses t = (is-bare-reads.Asked, is-bare-reads.Learnt, argument-at-reads.Asked, argument-at-reads.Learnt, push-reads.Asked, push-reads.Learnt, run-below t, run.Post)
 
 abbrev run-uses : ℕ → run-lts.Claims
-run-uses t = (may-be-absent-reads.Asked, may-be-absent-reads.Learnt, next-node-reads.Asked, next-node-reads.Learnt, value-below t, value.Post, again-reads.Asked, again-reads.Learnt)
+run-uses t = (may-be-absent-reads.Asked, may-be-absent-reads.Learnt, next-node-reads.Asked, next-node-reads.Learnt, descend-reads.Asked, descend-reads.Learnt, value-below t, value.Post, again-reads.Asked, again-reads.Learnt)
 
 abbrev array-uses : ℕ → array-lts.Claims
 array-uses t = (own-label-reads.Asked, own-label-reads.Learnt, size-of-reads.Asked, size-of-reads.Learnt, push-reads.Asked, push-reads.Learnt, run-below t, run.Post)
@@ -235,47 +237,90 @@ run-next-node-requires t c κs =
     let x = c3 .loop in
     omega (arith, node-inside _ _ _ _ (run-fits (now (a .table)) (now (a .m)) (now (a .work)) (now (a .rows)) (a .modes) (a .node) (a .repeated) (a .count) (a .c) (a .n) (x .work) (x .rows) (x .k) (x .at) (x .core) (x .i) (x .inv) (c8 .pre .1 .2) (c8 .pre .1 .3) (c2 .loop-test .taken)) (c8 .pre .1 .2) .0, x .inv .ready .good .whole)
 
-run-value-requires : (t : ℕ) → run-lts.Need-value-requires (run-uses t) (run-at t) run.Post run-Inv-loop run-μ-loop
-run-value-requires t c κs =
-    let c5 = c .before .before .before .before .before in
-    let c6 = c5 .before in
-    let c11 = c6 .before .before .before .before .before in
-    let a = c11 .args in
-    let x = c6 .loop in
-    (omega (arith, c11 .pre .0), (x .inv .ready, x .inv .inside, c11 .pre .1 .2, run-fits (now (a .table)) (now (a .m)) (now (a .work)) (now (a .rows)) (a .modes) (a .node) (a .repeated) (a .count) (a .c) (a .n) (x .work) (x .rows) (x .k) (x .at) (x .core) (x .i) (x .inv) (c11 .pre .1 .2) (c11 .pre .1 .3) (c5 .loop-test .taken)))
+run-descend-requires : (t : ℕ) → run-lts.Need-descend-requires (run-uses t) (run-at t) run.Post run-Inv-loop run-μ-loop
+run-descend-requires t c κs =
+    let c4 = c .before .before .before .before in
+    let c5 = c4 .before in
+    let c10 = c5 .before .before .before .before .before in
+    let a = c10 .args in
+    let x = c5 .loop in
+    (x .inv .inside, c10 .pre .1 .2, record { work = x .work; ready = x .inv .ready; fits = run-fits (now (a .table)) (now (a .m)) (now (a .work)) (now (a .rows)) (a .modes) (a .node) (a .repeated) (a .count) (a .c) (a .n) (x .work) (x .rows) (x .k) (x .at) (x .core) (x .i) (x .inv) (c10 .pre .1 .2) (c10 .pre .1 .3) (c4 .loop-test .taken) })
 
-run-enum-known-r : (t : ℕ) → run-lts.Need-enum-known-r (run-uses t) (run-at t) run.Post run-Inv-loop run-μ-loop
-run-enum-known-r t c = search needs
+run-enum-known-d : (t : ℕ) → run-lts.Need-enum-known-d (run-uses t) (run-at t) run.Post run-Inv-loop run-μ-loop
+run-enum-known-d t c = search needs
 
 run-enum-told : (t : ℕ) → run-lts.Need-enum-told (run-uses t) (run-at t) run.Post run-Inv-loop run-μ-loop
 run-enum-told t c = search needs
 
-run-again-requires : (t : ℕ) → run-lts.Need-again-requires (run-uses t) (run-at t) run.Post run-Inv-loop run-μ-loop
-run-again-requires t c κs = search needs
-
 run-same-length : (t : ℕ) → run-lts.Need-same-length (run-uses t) (run-at t) run.Post run-Inv-loop run-μ-loop
 run-same-length t c =
-    let c7 = c .before .before .before .before .before .before .before in
-    let c14 = c7 .before .before .before .before .before .before .before in
-    c7 .value .kept .1 .1 .0 ∙ c14 .loop .inv .lent
+    let c4 = c .before .before .before .before in
+    let c10 = c4 .before .before .before .before .before .before in
+    c4 .descend .kept .1 .1 .0 ∙ c10 .loop .inv .lent
 
 run-same-length-2 : (t : ℕ) → run-lts.Need-same-length-2 (run-uses t) (run-at t) run.Post run-Inv-loop run-μ-loop
 run-same-length-2 t c =
-    let c7 = c .before .before .before .before .before .before .before in
-    let c14 = c7 .before .before .before .before .before .before .before in
-    c7 .value .kept .1 .1 .1 .0 ∙ c14 .loop .inv .worked
+    let c10 = c .before .before .before .before .before .before .before .before .before .before in
+    c10 .loop .inv .worked
 
 run-returns : (t : ℕ) → run-lts.Need-returns (run-uses t) (run-at t) run.Post run-Inv-loop run-μ-loop
 run-returns t c =
-    let c1 = c .before in
-    let c7 = c1 .before .before .before .before .before .before in
+    let c4 = c .before .before .before .before in
+    let c8 = c4 .before .before .before .before in
+    let c9 = c8 .before in
+    let c10 = c9 .before in
+    let c15 = c10 .before .before .before .before .before in
+    let a = c15 .args in
+    let x = c10 .loop in
+    run-not (now (a .table)) (now (a .m)) (now (a .work)) (now (a .rows)) (a .modes) (a .node) (a .repeated) (a .count) (a .c) (a .n) (x .work) (x .rows) (x .k) (x .at) (x .core) (x .i) (x .inv) (c15 .pre .1 .2) (c9 .loop-test .taken) (c8 .may-be-absent .ensures) (descent-full _ _ (c4 .descend .ensures) (c .enum-told .given .1) .refused (x .work) _ _ (a .modes) (x .inv .ready)) refl refl
+
+run-value-requires : (t : ℕ) → run-lts.Need-value-requires (run-uses t) (run-at t) run.Post run-Inv-loop run-μ-loop
+run-value-requires t c κs =
+    let c3 = c .before .before .before in
+    let c7 = c3 .before .before .before .before in
     let c12 = c7 .before .before .before .before .before in
     let c13 = c12 .before in
-    let c14 = c13 .before in
-    let c19 = c14 .before .before .before .before .before in
-    let a = c19 .args in
-    let x = c14 .loop in
-    run-not (now (a .table)) (now (a .m)) (now (a .work)) (now (a .rows)) (a .modes) (a .node) (a .repeated) (a .count) (a .c) (a .n) (x .work) (x .rows) (x .k) (x .at) (x .core) (x .i) (x .inv) (c19 .pre .1 .2) (c13 .loop-test .taken) (c12 .may-be-absent .ensures) (c7 .value .ensures) (c1 .enum-told .given .1) (c .again .ensures)
+    let c18 = c13 .before .before .before .before .before in
+    let a = c18 .args in
+    let x = c13 .loop in
+    let d = descent-to _ _ (c7 .descend .ensures) (c3 .d .given .1) in
+    (omega (arith, c18 .pre .0, d .shorter), (x .inv .ready, d .inside, c18 .pre .1 .2, d .fits (x .work) (run-fits (now (a .table)) (now (a .m)) (now (a .work)) (now (a .rows)) (a .modes) (a .node) (a .repeated) (a .count) (a .c) (a .n) (x .work) (x .rows) (x .k) (x .at) (x .core) (x .i) (x .inv) (c18 .pre .1 .2) (c18 .pre .1 .3) (c12 .loop-test .taken))))
+
+run-enum-known-r : (t : ℕ) → run-lts.Need-enum-known-r (run-uses t) (run-at t) run.Post run-Inv-loop run-μ-loop
+run-enum-known-r t c = search needs
+
+run-enum-told-2 : (t : ℕ) → run-lts.Need-enum-told-2 (run-uses t) (run-at t) run.Post run-Inv-loop run-μ-loop
+run-enum-told-2 t c = search needs
+
+run-again-requires : (t : ℕ) → run-lts.Need-again-requires (run-uses t) (run-at t) run.Post run-Inv-loop run-μ-loop
+run-again-requires t c κs = search needs
+
+run-same-length-3 : (t : ℕ) → run-lts.Need-same-length-3 (run-uses t) (run-at t) run.Post run-Inv-loop run-μ-loop
+run-same-length-3 t c =
+    let c7 = c .before .before .before .before .before .before .before in
+    let c15 = c7 .before .before .before .before .before .before .before .before in
+    let c21 = c15 .before .before .before .before .before .before in
+    c7 .value .kept .1 .1 .0 ∙ c15 .descend .kept .1 .1 .0 ∙ c21 .loop .inv .lent
+
+run-same-length-4 : (t : ℕ) → run-lts.Need-same-length-4 (run-uses t) (run-at t) run.Post run-Inv-loop run-μ-loop
+run-same-length-4 t c =
+    let c7 = c .before .before .before .before .before .before .before in
+    let c21 = c7 .before .before .before .before .before .before .before .before .before .before .before .before .before .before in
+    c7 .value .kept .1 .1 .1 .0 ∙ c21 .loop .inv .worked
+
+run-returns-2 : (t : ℕ) → run-lts.Need-returns-2 (run-uses t) (run-at t) run.Post run-Inv-loop run-μ-loop
+run-returns-2 t c =
+    let c1 = c .before in
+    let c7 = c1 .before .before .before .before .before .before in
+    let c11 = c7 .before .before .before .before in
+    let c15 = c11 .before .before .before .before in
+    let c19 = c15 .before .before .before .before in
+    let c20 = c19 .before in
+    let c21 = c20 .before in
+    let c26 = c21 .before .before .before .before .before in
+    let a = c26 .args in
+    let x = c21 .loop in
+    run-not (now (a .table)) (now (a .m)) (now (a .work)) (now (a .rows)) (a .modes) (a .node) (a .repeated) (a .count) (a .c) (a .n) (x .work) (x .rows) (x .k) (x .at) (x .core) (x .i) (x .inv) (c26 .pre .1 .2) (c20 .loop-test .taken) (c19 .may-be-absent .ensures) (descent-to _ _ (c15 .descend .ensures) (c11 .d .given .1) .onward (x .work) _ _ _ (a .modes) (x .inv .ready) (c7 .value .ensures)) (c1 .enum-told2 .given .1) (c .again .ensures)
 
 run-sub-k : (t : ℕ) → run-lts.Need-sub-k (run-uses t) (run-at t) run.Post run-Inv-loop run-μ-loop
 run-sub-k t c = search needs
@@ -287,23 +332,25 @@ run-loop-again : (t : ℕ) → run-lts.Need-loop-again (run-uses t) (run-at t) r
 run-loop-again t c =
     let c1 = c .before in
     let c7 = c1 .before .before .before .before .before .before in
-    let c10 = c7 .before .before .before in
-    let c12 = c10 .before .before in
-    let c13 = c12 .before in
-    let c14 = c13 .before in
-    let c19 = c14 .before .before .before .before .before in
-    let a = c19 .args in
-    let x = c14 .loop in
-    run-again (now (a .table)) (now (a .m)) (now (a .work)) (now (a .rows)) (a .modes) (a .node) (a .repeated) (a .count) (a .c) (a .n) (x .work) (x .rows) (x .k) (x .at) (x .core) (x .i) (x .inv) (c19 .pre .1 .2) (c13 .loop-test .taken) (c12 .may-be-absent .ensures) (c7 .value .ensures) (c19 .pre .1 .3) (c10 .next-node .ensures) (c7 .value .kept .1 .1 .0) (c7 .value .kept .1 .1 .1 .0) (c1 .r .given .1)
+    let c11 = c7 .before .before .before .before in
+    let c15 = c11 .before .before .before .before in
+    let c17 = c15 .before .before in
+    let c19 = c17 .before .before in
+    let c20 = c19 .before in
+    let c21 = c20 .before in
+    let c26 = c21 .before .before .before .before .before in
+    let a = c26 .args in
+    let x = c21 .loop in
+    run-again (now (a .table)) (now (a .m)) (now (a .work)) (now (a .rows)) (a .modes) (a .node) (a .repeated) (a .count) (a .c) (a .n) (x .work) (x .rows) (x .k) (x .at) (x .core) (x .i) (x .inv) (c26 .pre .1 .2) (c20 .loop-test .taken) (c19 .may-be-absent .ensures) (descent-to _ _ (c15 .descend .ensures) (c11 .d .given .1) .onward (x .work) _ _ _ (a .modes) (x .inv .ready) (c7 .value .ensures)) (c26 .pre .1 .3) (c17 .next-node .ensures) (c7 .value .kept .1 .1 .0 ∙ c15 .descend .kept .1 .1 .0) (c7 .value .kept .1 .1 .1 .0) (c1 .r .given .1)
 
-run-same-length-3 : (t : ℕ) → run-lts.Need-same-length-3 (run-uses t) (run-at t) run.Post run-Inv-loop run-μ-loop
-run-same-length-3 t c = c .before .loop .inv .lent
+run-same-length-5 : (t : ℕ) → run-lts.Need-same-length-5 (run-uses t) (run-at t) run.Post run-Inv-loop run-μ-loop
+run-same-length-5 t c = c .before .loop .inv .lent
 
-run-same-length-4 : (t : ℕ) → run-lts.Need-same-length-4 (run-uses t) (run-at t) run.Post run-Inv-loop run-μ-loop
-run-same-length-4 t c = c .before .loop .inv .worked
+run-same-length-6 : (t : ℕ) → run-lts.Need-same-length-6 (run-uses t) (run-at t) run.Post run-Inv-loop run-μ-loop
+run-same-length-6 t c = c .before .loop .inv .worked
 
-run-returns-2 : (t : ℕ) → run-lts.Need-returns-2 (run-uses t) (run-at t) run.Post run-Inv-loop run-μ-loop
-run-returns-2 t c =
+run-returns-3 : (t : ℕ) → run-lts.Need-returns-3 (run-uses t) (run-at t) run.Post run-Inv-loop run-μ-loop
+run-returns-3 t c =
     let c1 = c .before in
     let c6 = c1 .before .before .before .before .before in
     let a = c6 .args in
@@ -594,19 +641,25 @@ pub +array+record+run+value+wire-spec : {M : Type 1} → statement M
     (run-loop-holds t)
     (run-may-be-absent-requires t)
     (run-next-node-requires t)
-    (run-value-requires t)
-    (run-enum-known-r t)
+    (run-descend-requires t)
+    (run-enum-known-d t)
     (run-enum-told t)
-    (run-again-requires t)
     (run-same-length t)
     (run-same-length-2 t)
     (run-returns t)
+    (run-value-requires t)
+    (run-enum-known-r t)
+    (run-enum-told-2 t)
+    (run-again-requires t)
+    (run-same-length-3 t)
+    (run-same-length-4 t)
+    (run-returns-2 t)
     (run-sub-k t)
     (run-loop-less t)
     (run-loop-again t)
-    (run-same-length-3 t)
-    (run-same-length-4 t)
-    (run-returns-2 t))
+    (run-same-length-5 t)
+    (run-same-length-6 t)
+    (run-returns-3 t))
     (λ t. value-lts.spec (value-uses t) (value-at t) value.Post
     (value-kind-at-requires t)
     (value-open-requires t)

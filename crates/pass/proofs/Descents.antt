@@ -1,0 +1,131 @@
+-- From a record of one field or an array of one entry to the value that it holds, and so on down. Assumes nothing.
+use mathlib.Core.Path.{_≡_, refl, sym, ap, subst}
+use mathlib.Core.Bool.{Bool, true, false}
+use mathlib.Core.List.{List}
+use Prim.Native.Nat.{ℕ, _+_, _≤_}
+use native.Mathlib.Omega.{arith}
+use lib.Dec.{eqb}
+use lib.IntN.{pos}
+use Rattle.format.specs.Table.{nodeAt, NULLABLE}
+use Rattle.format.specs.Row.{arrayRow}
+use Rattle.label.specs.Laws.{integer-low}
+use Rattle.typed.specs.Typed.{Sized, FitsNode, FitsWire}
+use Rattle.typed.specs.Run.{absentIn}
+use Rattle.fit.specs.declared.Step.{Step}
+use Rattle.fit.specs.declared.Step.the-variants.{Done, Refused}
+use Rattle.fit.specs.declared.Pass.{Pass}
+use Rattle.fit.specs.Rest.{restOf}
+use Rattle.fit.specs.Opens.{fitRecord}
+use Rattle.fit.specs.Writes.{Holds}
+use Rattle.fit.specs.Row.{Marks, WritesRow}
+use Rattle.fit.proofs.Facts.{open-plain, record-plain}
+use Rattle.pass.specs.declared.descent.Holder.the-variants.{One}
+use Rattle.pass.specs.declared.descent.Descent.{Descent}
+use Rattle.pass.specs.declared.descent.Descent.the-variants.{To, Stop}
+use Rattle.pass.specs.Pass.{WritesNode, WritesWire}
+use Rattle.pass.specs.Descent.{OneEntry, OneField, Alone, Enters, Stands, Onward, Leads, Stops, Descends}
+use Rattle.pass.proofs.Values.{word-there, row-holds, mark-holds, marks-as, own-fits, fields-fit, entry-fits, value-here, record-not, record-then, array-refused, array-then}
+use Rattle.pass.proofs.Loops.{fields-begin, fields-fits}
+use Rattle.pass.proofs.Runs.{entry-alone, field-alone}
+
+-- ---- one step down
+
+module _ (how : Pass) (table pool rows out w : List ℕ) (i core node : ℕ) (holds : Holds pool rows w i core) (fits : FitsNode table w 32 node) (whole : Sized table) where
+  -- nothing stands in front of a value that is neither omittable nor nullable
+  module _ (z : eqb (nodeAt table node .kind) NULLABLE ≡ false) where
+    plain : {out′ w′ : List ℕ} {r : Step} → WritesWire how table pool rows out w core out′ w′ r i node false → WritesNode how table pool rows out w core out′ w′ r i node false
+    plain d = value-here how table pool rows out w i core node holds (sym z) (open-plain false false refl refl) refl d
+
+    wire-fits : FitsWire table w 32 node
+    wire-fits = own-fits table w node (sym z) refl fits
+
+  module _ {out₁ : List ℕ} {r₁ : Step} where
+    module _ (x : OneEntry table pool rows node i) (d : Marks (how .put) out out₁ i core r₁ (pos 1)) where
+      no-front-entry : eqb (nodeAt table node .kind) NULLABLE ≡ false
+      no-front-entry = ap (λ k. eqb k NULLABLE) (x .kind)
+
+      entry-not : {n j : ℕ} → r₁ ≡ Refused n j → WritesNode how table pool rows out w core out₁ w r₁ i node false
+      entry-not q = plain no-front-entry (array-refused how table pool rows out w i core node holds (x .kind) (x .row) (omega arith) (marks-as (sym (integer-low (omega arith))) d) q refl)
+
+      entry-onward : {put : Bool} {i₁ core₁ : ℕ} → r₁ ≡ Done i₁ core₁ → Onward put table pool rows out core i node false out₁ core₁ i₁ (node + 1) false how w
+      entry-onward q = record {
+        holds = mark-holds holds (word-there pool rows i arrayRow (x .row)) d q;
+        fits = entry-fits table w node {count = 1} (x .kind) (wire-fits no-front-entry) .entries refl;
+        whole = λ y. plain no-front-entry (array-then how table pool rows out w i core node holds (x .kind) (x .row) (omega arith) (marks-as (sym (integer-low (omega arith))) d) q (entry-alone y));
+      }
+
+    module _ (x : OneField table pool rows node i) (e : r₁ ≡ Done (i + 1) core) (o : out₁ ≡ out) where
+      no-front-field : eqb (nodeAt table node .kind) NULLABLE ≡ false
+      no-front-field = ap (λ k. eqb k NULLABLE) (x .kind)
+
+      own-row : WritesRow (how .put) pool rows out out₁ i core r₁ (fitRecord 1 false (restOf pool rows i))
+      own-row = rw e (record-plain false 1 (x .row) refl refl o)
+
+      field-not : {n j : ℕ} → r₁ ≡ Refused n j → WritesNode how table pool rows out w core out₁ w r₁ i node false
+      field-not q = plain no-front-field (record-not how table pool rows out w i core node holds false (x .kind) (sym (x .count)) own-row q refl)
+
+      field-onward : {put : Bool} {i₁ core₁ : ℕ} → r₁ ≡ Done i₁ core₁ → Onward put table pool rows out core i node false out₁ core₁ i₁ (node + 1) (absentIn false (nodeAt table (node + 1))) how w
+      field-onward {i₁ = i₁} {core₁} q =
+          let h = row-holds holds own-row q in
+          record {
+            holds = h;
+            fits = fields-fits how table pool rows out w (node + 1) 1 i₁ core₁ out w 1 (node + 1) i₁ core₁ (fields-begin how table pool rows out w (node + 1) 1 i₁ core₁ h) whole (fields-fit table w node (x .kind) (sym (x .count)) (wire-fits no-front-field) .fields refl) (λ q. omega arith);
+            whole = λ y. plain no-front-field (record-then how table pool rows out w i core node holds false (x .kind) (sym (x .count)) own-row q (field-alone y));
+          }
+
+    step-not : (array : Bool) {n j : ℕ} → Alone table pool rows node i (One array) → Enters (how .put) out out₁ i core r₁ array → r₁ ≡ Refused n j → WritesNode how table pool rows out w core out₁ w r₁ i node false
+    step-not true x d q = entry-not x d q
+    step-not false x d q = field-not x (d .0) (d .1) q
+
+    step-onward : (array : Bool) {put : Bool} {i₁ core₁ : ℕ} → Alone table pool rows node i (One array) → Enters (how .put) out out₁ i core r₁ array → r₁ ≡ Done i₁ core₁
+        → Onward put table pool rows out core i node false out₁ core₁ i₁ (node + 1) (absentIn array (nodeAt table (node + 1))) how w
+    step-onward true x d q = entry-onward x d q
+    step-onward false x d q = field-onward x (d .0) (d .1) q
+
+-- ---- all the way down
+
+module _ (put : Bool) (table pool rows out₀ : List ℕ) (core₀ i₀ node₀ : ℕ) (o₀ : Bool) where
+  pub leads-self : Leads put table pool rows out₀ core₀ i₀ node₀ o₀ out₀ core₀ i₀ node₀ o₀
+  leads-self = record { behind = omega arith; onward = λ how e w h f. record { holds = h; fits = f; whole = λ y. y } }
+
+  module _ (out : List ℕ) (core i node : ℕ) {o : Bool} (x : Leads put table pool rows out₀ core₀ i₀ node₀ o₀ out core i node o) where
+    pub leads-as : {o₁ : Bool} → o ≡ o₁ → Leads put table pool rows out₀ core₀ i₀ node₀ o₀ out core i node o₁
+    leads-as e = rw (← e) x
+
+    pub still-stands : Stands table pool rows i₀ core₀ node₀ → Stands table pool rows i core node
+    still-stands s =
+        let y = x .onward (record { put = put; inline = false; numbers = false }) refl (s .work) (s .holds) (s .fits) in
+        record { work = s .work; holds = y .holds; fits = y .fits }
+
+    module _ (whole : Sized table) (z : o ≡ false) (array : Bool) (a : Alone table pool rows node i (One array)) {out₁ : List ℕ} {r₁ : Step} (d : Enters put out out₁ i core r₁ array) where
+      pub leads-again : {i₁ core₁ : ℕ} {o₁ : Bool} → r₁ ≡ Done i₁ core₁ → o₁ ≡ absentIn array (nodeAt table (node + 1)) → Leads put table pool rows out₀ core₀ i₀ node₀ o₀ out₁ core₁ i₁ (node + 1) o₁
+      leads-again q t = rw t (record {
+        behind = omega (arith, x .behind);
+        onward = λ how e w h f.
+            let y = leads-as z .onward how e w h f in
+            let s = step-onward how table pool rows out w i core node (y .holds) (y .fits) whole array {put = put} a (subst (λ p. Enters p out out₁ i core r₁ array) (sym e) d) q in
+            record { holds = s .holds; fits = s .fits; whole = λ u. y .whole (s .whole u) };
+      })
+
+      pub leads-not : {r : Step} {n j : ℕ} → r₁ ≡ Refused n j → r ≡ r₁ → Stops put table pool rows out₀ core₀ i₀ node₀ o₀ out₁ r
+      leads-not {n = n} {j} q t = rw t (record {
+        number = n;
+        second = j;
+        refused = q;
+        writes = λ how e w h f.
+            let y = leads-as z .onward how e w h f in
+            y .whole (step-not how table pool rows out w i core node (y .holds) (y .fits) whole array a (subst (λ p. Enters p out out₁ i core r₁ array) (sym e) d) q);
+      })
+
+-- ---- by what was answered
+
+module _ (how : Pass) (table pool rows out w : List ℕ) (i core node : ℕ) {o : Bool} (holds : Holds pool rows w i core) (fits : FitsNode table w 32 node) (out₁ : List ℕ) {d : Descent} (x : Descends (how .put) table pool rows out core i node o out₁ d) where
+  pub led-on : {node₁ i₁ core₁ : ℕ} {o₁ : Bool} → d ≡ To node₁ o₁ i₁ core₁ → (node ≤ node₁) × Onward (how .put) table pool rows out core i node o out₁ core₁ i₁ node₁ o₁ how w
+  led-on q =
+      let y = subst (λ a. Descends (how .put) table pool rows out core i node o out₁ a) q x in
+      (y .behind, y .onward how refl w holds fits)
+
+  pub stopped : {r : Step} → d ≡ Stop r → (n : ℕ) × (j : ℕ) × (r ≡ Refused n j) × WritesNode how table pool rows out w core out₁ w r i node o
+  stopped q =
+      let y = subst (λ a. Descends (how .put) table pool rows out core i node o out₁ a) q x in
+      (y .number, y .second, y .refused, y .writes how refl w holds fits)
