@@ -16,10 +16,11 @@ use Rattle.label.specs.Laws.{framed}
 use Rattle.store.specs.Store.{put, advanced, unnumbered}
 use Rattle.store.specs.Words.{storeOf, Good, Changes}
 use Rattle.store.specs.Laws.{drop-nth}
+use Rattle.store.specs.Same.{Same, same-self, same-then}
 use Rattle.laws.specs.Facts.{absurd-some, some-same}
 use Rattle.plan.specs.Layout.{blockSpace, coreLabel, starts, coreStart, messageLength, putLabels, layOut}
 use Rattle.plan.specs.Slots.{under, change-under, Apart, apart-change, apart-middle, put-middle}
-use Rattle.emit.specs.State.{slotsOf, Same}
+use Rattle.emit.specs.State.{slotsOf}
 use Rattle.emit.specs.Layout.{LaysBlocks, LaysOut}
 
 nth-under : {X Y : Type 0} (f : X → Y) (xs : List (ℕ × X)) (i : ℕ) {k : ℕ} {p : X} → nth xs i ≡ some (k, p) → nth (under f xs) i ≡ some (k, f p)
@@ -77,7 +78,7 @@ laying-start w out g a = record {
   good = g;
   apart = a;
   rest = refl;
-  same = λ i h. refl;
+  same = same-self _;
   all = refl;
   size = refl;
   words = refl;
@@ -127,7 +128,7 @@ module _ {w₀ out₀ w out : List ℕ} {at i : ℕ} (l : Laying w₀ out₀ w o
             good = c .good;
             apart = rw moved (apart-change k (λ m. start) (slotsOf w) (l .apart));
             rest = ap (λ s. s .rest) (c .store) ∙ l .rest;
-            same = λ j h. c .outside j h ∙ l .same j h;
+            same = same-then (l .same) (record { at = c .outside });
             all = rw (moved-is, length-append) (sym (length-append (l .front) ((k, n) ∷ next .0)) ∙ ap length (sym split) ∙ l .all);
             size = ap length o ∙ length-sets out at (label (pos n)) ∙ l .size;
             words = c .size ∙ l .words;
@@ -173,7 +174,7 @@ module _ (modes core : ℕ) {w w₁ w₂ out out₁ : List ℕ} {at : ℕ} (l : 
     slots = ap (λ s. under (λ p. p .at) (s .slots)) (c .store) ∙ l .slots;
     literals = ap (λ s. s .literals) (c .store);
     rest = ap (λ s. s .rest) (c .store) ∙ l .rest;
-    same = λ i h. c .outside i h ∙ l .same i h;
+    same = same-then (l .same) (record { at = c .outside });
     labels = e;
     start = f;
   }

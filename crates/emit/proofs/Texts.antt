@@ -98,7 +98,7 @@ module _ (pool : List ℕ) (k : ℕ) (x : Place) where
         → Does pool w w′ out (Done core) (ok (emitLiteral numbered k (bytesAt pool p) (planOf pool out w core)))
     keep-does out core numbered {w} {w′} kp g c =
         let e : planOf pool out w′ core ≡ emitLiteral numbered k (bytesAt pool p) (planOf pool out w core) = ap (planIn pool out core) (c .store) ∙ literal-is out core numbered (storeOf w) (λ n. ap (bytesAt pool) (kp n .place)) in
-        along (ap ok (sym e)) (does-ok (record { small = g .small; good = c .good; inside = rw (c .store) (inside-kept numbered (storeOf w) kp (g .inside)) }) (c .outside))
+        along (ap ok (sym e)) (does-ok (record { small = g .small; good = c .good; inside = rw (c .store) (inside-kept numbered (storeOf w) kp (g .inside)) }) (record { at = c .outside }))
 
 -- a value changes no literal
 module _ (put : Bool) (k : ℕ) (bs : List ℕ) (p : Plan) {q : Plan} where

@@ -164,5 +164,5 @@ module _ (put inline : Bool) (k core : ℕ) {w : List ℕ} {r₁ : Step} (q₁ :
           record {
             does = λ pool g.
                 let e : planOf pool out′ w′ core′ ≡ planTo inline k (at + length bs) out′ (planOf pool out w core) = rw (f, c .store, ← (x .1)) (planned pool out out′ core inline k end (storeOf w)) in
-                along (bytes-done put inline k bs (planOf pool out w core) (place-done _ q₁ q₂) (x .0) ∙ ap ok (sym e)) (does-ok (ready-kept g (c .good) (ap (λ s. s .literals) (c .store) ∙ literals-stay inline k end (storeOf w))) (c .outside));
+                along (bytes-done put inline k bs (planOf pool out w core) (place-done _ q₁ q₂) (x .0) ∙ ap ok (sym e)) (does-ok (ready-kept g (c .good) (ap (λ s. s .literals) (c .store) ∙ literals-stay inline k end (storeOf w))) (record { at = c .outside }));
           }

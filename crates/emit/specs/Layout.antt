@@ -8,10 +8,11 @@ use lib.ListN.{length}
 use Rattle.format.specs.Modes.{inlineEverything}
 use Rattle.format.specs.Read.{noLiterals, nth}
 use Rattle.store.specs.Words.{storeOf, Good}
+use Rattle.store.specs.Same.{Same}
 use Rattle.laws.specs.Facts.{absurd-some}
 use Rattle.theory.specs.Lists.{empty-lists}
 use Rattle.plan.specs.Layout.{blockSpace, starts, coreStart, putLabels, layOut, placed}
-use Rattle.emit.specs.State.{planOf, slotsOf, Ready, Same}
+use Rattle.emit.specs.State.{planOf, slotsOf, Ready}
 
 pub record LaysBlocks (w w′ out out′ : List ℕ) (at : ℕ) : Type 0 where
   pub good : Good w′

@@ -11,6 +11,7 @@ use Rattle.format.specs.Table.{Held}
 use Rattle.format.specs.Write.{Event}
 use Rattle.store.specs.Store.{Store}
 use Rattle.store.specs.Words.{word, storeOf, Good}
+use Rattle.store.specs.Same.{Same}
 use Rattle.plan.specs.Plan.{Plan, putBytes, emitEvent}
 use Rattle.plan.specs.Slots.{under, most}
 use Rattle.search.specs.Search.{textsOf, Inside}
@@ -43,10 +44,6 @@ pub record Ready (pool w : List ℕ) : Type 0 where
 pub record Within (b core : ℕ) (w : List ℕ) : Type 0 where
   pub first : core ≤ b
   pub others : most (slotsOf w) ≤ b
-
--- the caller's own words stay
-abbrev pub Same : List ℕ → List ℕ → Type 0
-Same w w′ = (i : ℕ) → i < 1024 → word w′ i ≡ word w i
 
 -- the work, w before, holds the plan p now, with the output
 pub record Holds (pool w w′ out : List ℕ) (p : Plan) : Type 0 where

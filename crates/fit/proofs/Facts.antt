@@ -23,6 +23,7 @@ use Rattle.laws.specs.Facts.{or-false, by-bool}
 use Rattle.label.specs.Laws.{label-most}
 use Rattle.plan.specs.Plan.{emitFront, emitBody, emitEvent, emitEvents}
 use Rattle.plan.specs.Moves.{bodySize}
+use Rattle.store.specs.Same.{same-self}
 use Rattle.emit.specs.declared.Step as emitted
 use Rattle.emit.specs.State.{planOf, Within, EmitsEvent, Puts}
 use Rattle.emit.specs.Text.{EmitsText}
@@ -35,10 +36,10 @@ use Rattle.fit.specs.declared.Pass.{Pass}
 use Rattle.fit.specs.Rest.{restOf}
 use Rattle.search.specs.Parts.{part-length}
 use Rattle.fit.specs.Judged.{placeIn, valueIn, truthOf, frontOf}
-use Rattle.fit.specs.Fits.{textRow, textLeaf, looked, found-there, text-not, text-stray, text-is, varint-not, varint-is, float-not, float-is, fixed-not, fixed-other, fixed-is}
+use Rattle.fit.specs.Fits.{textRow, textLeaf, looked, found-there, value-there, text-not, text-stray, text-is, varint-not, varint-is, float-not, float-is, fixed-not, fixed-other, fixed-is}
 use Rattle.fit.specs.Opens.{fitTruth, truth-not, truth-is, fitRecord, record-not, record-other, record-is, value-plain, front-not, front-gone, front-here}
 use Rattle.fit.specs.Writes.{Holds}
-use Rattle.fit.specs.Laws.{along, refuses, puts-any, same-self}
+use Rattle.fit.specs.Laws.{along, refuses, puts-any}
 use Rattle.fit.specs.Row.{nextStep, row-writes, Marks, WritesRow, OpensGone, OpensHere, WritesValue, WritesText, leafOf, isJudged}
 
 -- what a call answered, in the terms of its definition
@@ -115,10 +116,6 @@ drop-take (suc n) m (x ∷ xs) = rw suc-add (drop-take n m xs)
 -- the text test's bytes are the part's
 pub part-text : (spared : Bool) (pool : List ℕ) (start size : ℕ) {b : Bool} → b ≡ (spared || isText (slice start (start + size) pool)) → (spared || isText (bytesAt pool (record { start = start; size = size }))) ≡ b
 part-text spared pool start size e = sym (e ∙ ap (λ x. spared || isText x) (drop-take start size pool))
-
-value-there : (pool rows : List ℕ) (i kind : ℕ) {n : ℕ} → valueIn kind (looked pool rows i) ≡ some n → i < rowCount rows
-unfolding valueIn
-value-there pool rows i kind e = found-there pool rows i (valueIn kind) (λ n j. refl) e
 
 place-there : (pool rows : List ℕ) (i kind : ℕ) {p : Place} → placeIn kind (looked pool rows i) ≡ some p → i < rowCount rows
 unfolding placeIn

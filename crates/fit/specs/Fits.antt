@@ -44,6 +44,10 @@ module _ (pool rows : List ℕ) (i : ℕ) where
         go (ok r) q z = there q
         go (refuse n j) q z = absurd-some (sym (none-there n j) ∙ z)
 
+  pub value-there : (kind : ℕ) {a : ℕ} → valueIn kind looked ≡ some a → i < rowCount rows
+  unfolding valueIn
+  value-there kind e = found-there (valueIn kind) (λ n j. refl) e
+
   -- what a test finds in its cell
   unfoldable pub judged : {A : Type 0} → (Cell → Option A) → Answer (Row Place) → Option A
   judged f (ok r) = f (cellOf pool r)

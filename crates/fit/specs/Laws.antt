@@ -11,17 +11,12 @@ use Rattle.laws.specs.Facts.{absurd-ok, bind-is}
 use Rattle.plan.specs.Plan.{Plan, emitEvents}
 use Rattle.plan.specs.Laws.{emit-append}
 use Rattle.plan.specs.Moves.{fine-counts, event-moves}
+use Rattle.store.specs.Same.{Same, same-self, same-then}
 use Rattle.emit.specs.State.{planOf}
 use Rattle.fit.specs.declared.Step.{Step}
 use Rattle.fit.specs.declared.Step.the-variants.{Done, Refused}
 use Rattle.fit.specs.Rest.{restOf}
-use Rattle.fit.specs.Writes.{Same, Holds, Left, Emitted, Acts, Writes}
-
-pub same-self : (w : List ℕ) → Same w w
-same-self w = record { at = λ i h. refl }
-
-pub same-then : {w w₁ w₂ : List ℕ} → Same w w₁ → Same w₁ w₂ → Same w w₂
-same-then a b = record { at = λ i h. b .at i h ∙ a .at i h }
+use Rattle.fit.specs.Writes.{Holds, Left, Emitted, Acts, Writes}
 
 -- rows that fit, after others that do
 abbrev pub joined : List Event × Rest → List Event × Rest → List Event × Rest

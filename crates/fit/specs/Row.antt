@@ -43,7 +43,7 @@ module _ {put : Bool} {modes : ℕ} {held : ℕ → Held} {pool rows out w out�
       let p₁ = planOf pool out′ w′ core′ in
       let b : moves.Within (mostBefore i + 65556) p₁ = within-event put modes held e (mostBefore i) (planOf pool out w core) p₁ short (record { core = h .within .first; slots = h .within .others }) (l .is) in
       record {
-        left = (record { ready = l .ready; within = record { first = omega (arith, b .core); others = omega (arith, b .slots) }; inside = omega arith; few = h .few }, record { at = l .same });
+        left = (record { ready = l .ready; within = record { first = omega (arith, b .core); others = omega (arith, b .slots) }; inside = omega arith; few = h .few }, l .same);
         acts = rw (emit-one put modes held e (planOf pool out w core) ∙ l .is) (refl, refl, refl);
       }
 

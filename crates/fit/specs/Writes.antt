@@ -10,6 +10,7 @@ use Rattle.format.specs.Write.{Event, Rest}
 use Rattle.plan.specs.Plan.{Plan, emitEvents}
 use Rattle.emit.specs.State.{planOf, Ready, Within}
 use Rattle.store.specs.Words.{word}
+use Rattle.store.specs.Same.{Same}
 use Rattle.fit.specs.declared.Step.{Step}
 use Rattle.fit.specs.declared.Step.the-variants.{Done, Refused}
 use Rattle.fit.specs.Rest.{restOf}
@@ -17,10 +18,6 @@ use Rattle.fit.specs.Rest.{restOf}
 -- How far the core and each block go at most, before row i. While the message is written all begins within its 65,536 bytes; a row adds two labels and a text at most.
 abbrev pub mostBefore : ℕ → ℕ
 mostBefore i = 65536 + 65556 * i
-
--- the words below 1,024, where the table's nodes end, stay
-pub record Same (w w′ : List ℕ) : Type 0 where
-  pub at : (i : ℕ) → i < 1024 → word w′ i ≡ word w i
 
 -- before row i the work w holds a plan, whose core goes up to `core`
 pub record Holds (pool rows w : List ℕ) (i core : ℕ) : Type 0 where

@@ -18,8 +18,8 @@ use Rattle.pieces.specs.Pieces.{readingOf, Inside, Blocks, blocksOf, Left, Gave
 use Rattle.store.specs.Store.{Store, lookup, put, opened, advanced, rested}
 use Rattle.store.specs.Words.{storeOf, Good, Changes}
 use Rattle.store.specs.Laws.{move-put, lookup-put, lookup-append, lookup-append-other, lookup-change-other}
-use Rattle.leaf.specs.State.{cursorOf, Ready, stateOf, Same, Took, Takes}
-use Rattle.leaf.specs.Does.{same-then}
+use Rattle.store.specs.Same.{Same, same-then}
+use Rattle.leaf.specs.State.{cursorOf, Ready, stateOf, Took, Takes}
 use Rattle.leaf.specs.Takes.{took-along, took-refuses, took-ends, took-is, took-ready, then-takes, then-takes-not}
 use Rattle.leaf.specs.Touch.{given, touch, putBlock, touch-has, at-key}
 use Rattle.leaf.specs.Contracts.{givenOf, GivenIn, Opened}

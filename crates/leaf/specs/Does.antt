@@ -15,12 +15,13 @@ use Rattle.format.specs.Read.{inMessage, State, takeRow, oneRow}
 use Rattle.laws.specs.Lists.{sets-append}
 use Rattle.label.specs.declared.cursor.Cursor.{Cursor}
 use Rattle.pieces.specs.Pieces.{Inside}
+use Rattle.store.specs.Same.{Same, same-self, same-then}
 use Rattle.leaf.specs.declared.Step.{Step}
 use Rattle.leaf.specs.declared.Step.the-variants.{Done, Refused}
 use Rattle.leaf.specs.declared.push.Put.{Put}
 use Rattle.leaf.specs.declared.push.Put.the-variants.{Next, Full}
 use Rattle.leaf.specs.Push.{putOf, putIn}
-use Rattle.leaf.specs.State.{cursorOf, Ready, stateOf, Same, Holds, Does}
+use Rattle.leaf.specs.State.{cursorOf, Ready, stateOf, Holds, Does}
 
 -- ---- rows that stand one after another
 
@@ -51,12 +52,6 @@ along {m} {w} {w′} {l} {l′} {most} {n} {r} e d = subst (λ x. Does m most w 
 
 pub refuses : {m w w′ l l′ : List ℕ} {most n : ℕ} (e : ℕ) → Does m most w w′ n l l′ (Refused e) (refuse e 0)
 refuses e = record { answer = refl; left = refl }
-
-pub same-self : (w : List ℕ) → Same w w
-same-self w = record { at = λ i h. refl }
-
-pub same-then : {w w₁ w₂ : List ℕ} → Same w w₁ → Same w₁ w₂ → Same w w₂
-same-then a b = record { at = λ i h. b .at i h ∙ a .at i h }
 
 pub holds-then : {m w w₁ w₂ : List ℕ} {most n : ℕ} {s : State (inMessage m)} → Same w w₁ → Holds m most w₁ w₂ n s → Holds m most w w₂ n s
 holds-then a h = record { state = h .state; ready = h .ready; inside = h .inside; same = same-then a (h .same) }

@@ -13,6 +13,7 @@ use Rattle.pieces.specs.Chain.{waitingOf}
 use Rattle.pieces.specs.Pieces.{readingOf, Inside, Blocks}
 use Rattle.store.specs.Store.{lookup}
 use Rattle.store.specs.Words.{word, storeOf, Good}
+use Rattle.store.specs.Same.{Same}
 use Rattle.leaf.specs.declared.Step.{Step}
 use Rattle.leaf.specs.declared.Step.the-variants.{Done, Refused}
 
@@ -39,10 +40,6 @@ stateOf m most w c n = record {
   literals = storeOf w .literals;
   rows = most - n;
 }
-
--- the caller's own words stay
-pub record Same (w w′ : List ℕ) : Type 0 where
-  pub at : (i : ℕ) → i < 1024 → word w′ i ≡ word w i
 
 -- the work, w before, holds the state s now
 pub record Holds (m : List ℕ) (most : ℕ) (w w′ : List ℕ) (n : ℕ) (s : State (inMessage m)) : Type 0 where

@@ -8,10 +8,11 @@ use Rattle.format.specs.Read.{inMessage, State}
 use Rattle.laws.specs.Facts.{ok-pair, absurd-ok}
 use Rattle.label.specs.declared.cursor.Cursor.{Cursor}
 use Rattle.pieces.specs.Pieces.{Inside}
+use Rattle.store.specs.Same.{Same, same-self}
 use Rattle.leaf.specs.declared.Step.{Step}
 use Rattle.leaf.specs.declared.Step.the-variants.{Refused}
-use Rattle.leaf.specs.State.{Ready, stateOf, Same, Does, Took}
-use Rattle.leaf.specs.Does.{along, refuses, same-self, holds-then}
+use Rattle.leaf.specs.State.{Ready, stateOf, Does, Took}
+use Rattle.leaf.specs.Does.{along, refuses, holds-then}
 
 module _ {X : Type 0} {m : List ℕ} {most n : ℕ} where
   pub took-along : {w w′ : List ℕ} {r : Answer (X × Cursor)} {a a′ : Answer (X × State (inMessage m))} → a ≡ a′ → Took m most w w′ n r a′ → Took m most w w′ n r a

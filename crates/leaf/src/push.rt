@@ -6,12 +6,9 @@ ghost use Rattle.leaf.specs.State.{mostRows};
 ghost use Rattle.leaf.specs.Push.{putOf, putIn};
 ghost use Rattle.leaf.specs.Contracts.{PutsRow};
 use super::Step;
+use format::MOST_ROWS;
+use format::ROW_WIDTH;
 use label::Cursor;
-
-const MOST_ROWS: usize = 8192;
-
-// A row's words.
-const ROW_WIDTH: usize = 3;
 
 // How many rows there are with it; or there may be no more.
 pub enum Put {

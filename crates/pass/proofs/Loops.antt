@@ -14,14 +14,15 @@ use Rattle.format.specs.Write.{Event, Rest, Fit, fitEntries, fitAll}
 use Rattle.laws.specs.Tree.{size, depthFields}
 use Rattle.laws.specs.Kinds.{node-top, by-no-field}
 use Rattle.store.specs.Words.{word}
+use Rattle.store.specs.Same.{Same, same-self, same-then}
 use Rattle.typed.specs.Typed.{Sized, heldIn, IsNode, AreFields, FitsNode, FitFields}
 use Rattle.typed.specs.Nodes.{node-kept, First, first-of, first-depth}
 use Rattle.fit.specs.declared.Step.{Step}
 use Rattle.fit.specs.declared.Step.the-variants.{Done, Refused}
 use Rattle.fit.specs.declared.Pass.{Pass}
 use Rattle.fit.specs.Rest.{restOf}
-use Rattle.fit.specs.Writes.{Same, Holds, Writes}
-use Rattle.fit.specs.Laws.{same-self, same-then, joined, along, ends, done-holds, done-same, seqs, seqs-not}
+use Rattle.fit.specs.Writes.{Holds, Writes}
+use Rattle.fit.specs.Laws.{joined, along, ends, done-holds, done-same, seqs, seqs-not}
 use Rattle.fit.specs.Opens.{fitValue}
 use Rattle.pass.specs.Pass.{Suits, Runs, WritesNode, WritesFields, WritesEntries}
 

@@ -16,9 +16,10 @@ use Rattle.label.specs.declared.cursor.Cursor.{Cursor}
 use Rattle.pieces.specs.declared.Header as pieces
 use Rattle.pieces.specs.Header.{headerOf}
 use Rattle.pieces.specs.Pieces.{Inside}
+use Rattle.store.specs.Same.{Same}
 use Rattle.leaf.specs.declared.Step.{Step}
 use Rattle.leaf.specs.declared.Step.the-variants.{Done, Refused}
-use Rattle.leaf.specs.State.{mostRows, Ready, Same, cursorOf, stateOf, Does}
+use Rattle.leaf.specs.State.{mostRows, Ready, cursorOf, stateOf, Does}
 use Rattle.leaf.specs.Does.{done-ready, done-inside, done-same}
 use Rattle.typed.specs.Typed.{Sized, heldIn, FitsNode, Kept}
 use Rattle.typed.specs.Nodes.{node-kept}

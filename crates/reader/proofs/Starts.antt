@@ -20,7 +20,8 @@ use Rattle.pieces.specs.Chain.{waitingOf, waiting-none}
 use Rattle.pieces.specs.Pieces.{readingOf, Blocks, no-blocks, partsOf, Stand, Parted}
 use Rattle.store.specs.Store.{empty, lookup, rested}
 use Rattle.store.specs.Words.{storeOf, Changes}
-use Rattle.leaf.specs.State.{Ready, Same, stateOf}
+use Rattle.store.specs.Same.{Same}
+use Rattle.leaf.specs.State.{Ready, stateOf}
 use Rattle.reader.specs.declared.Begun as begun
 use Rattle.reader.specs.Reader.{isSized, start, Begins}
 

@@ -15,10 +15,11 @@ use Rattle.table.specs.declared.Answer as code
 use Rattle.label.specs.declared.cursor.Cursor.{Cursor}
 use Rattle.pieces.specs.Pieces.{Inside}
 use Rattle.store.specs.Words.{storeOf}
+use Rattle.store.specs.Same.{Same}
 use Rattle.typed.specs.Typed.{Kept}
 use Rattle.leaf.specs.declared.Step.{Step}
 use Rattle.leaf.specs.declared.Step.the-variants.{Done, Refused}
-use Rattle.leaf.specs.State.{Ready, Same, stateOf}
+use Rattle.leaf.specs.State.{Ready, stateOf}
 use Rattle.reader.specs.declared.Begun.{Begun}
 use Rattle.reader.specs.declared.Begun.the-variants.{Core, Bad}
 

@@ -10,6 +10,7 @@ ghost use Rattle.reader.specs.Reader.{isSized, rowsOf, Begins, Gives, us
 
 mod done;
 
+use format::MOST_BYTES;
 use label::Cursor;
 use leaf::Step;
 use pieces::Header;
@@ -29,7 +30,7 @@ fn is_sized(m: &[u8]) -> bool
     if m.len() < 1 {
         return false;
     }
-    m.len() <= 65536
+    m.len() <= MOST_BYTES
 }
 
 // The work holds what a walk begins with: no key is touched, and all blocks wait.

@@ -6,12 +6,10 @@ ghost use lib.ListN.{length};
 ghost use lib.Seq.{sets};
 ghost use Rattle.format.specs.Row.{rowWidth, placed, fromWords, look as lookOf, part as partOf, floatOf};
 ghost use Rattle.rows.specs.Seen.{seen, rightCase, inside, lookAtWords, isSome};
+use format::ROW_WIDTH;
 use label::words;
 
 pub mod kind;
-
-// A row's words: its kind, a and b.
-const ROW_WIDTH: usize = 3;
 
 // Of a float's bits.
 const SIGN: u64 = 0x8000000000000000;

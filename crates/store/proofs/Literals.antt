@@ -31,7 +31,7 @@ literal-is : (w : List ℕ) (k j : ℕ) → k < 32 → j < countOf w k → nth (
 unfolding literalsOf
 literal-is w k j h b = ap (λ (xs : List Place). nth xs j) (literals-at w k h) ∙ upto-nth (λ i. literalOf w k i) (countOf w k) j b
 
-pub size-is : (w : List ℕ) (k j : ℕ) → k < 32 → (x : Place) → nth (getD (storeOf w .literals) k []) j ≡ some x → x .size ≡ word w (cellOf w k j + 1)
+pub size-is : (w : List ℕ) (k j : ℕ) → k < 32 → (x : Place) → nth (getD (storeOf w .literals) k []) j ≡ some x → x .size ≡ word w (cellOf w k j + 64)
 size-is w k j h x e =
     let b = nth-below _ j e in
     ap (λ (y : Place). y .size) (Option·some-injective x (literalOf w k j) (sym e ∙ literal-is w k j h (omega (arith, count-is w k h))))
@@ -83,18 +83,15 @@ module _ (w : List ℕ) (g : GoodLiterals w) where
 
 -- ---- the words after the stores, one by one
 
--- cells that meet are of one page and one number on it; and a start is no size
+-- starts that meet are of one page and one number on it; and a start is no size
 cell-page : (a b p q : ℕ) → cellAt a p ≡ cellAt b q → a ≡ b
 cell-page a b p q e = let x : p % 64 < 64 = omega arith in let y : q % 64 < 64 = omega arith in omega arith
 
 cell-on : (a b p q : ℕ) → cellAt a p ≡ cellAt b q → p % 64 ≡ q % 64
 cell-on a b p q e = let z = cell-page a b p q e in omega arith
 
-odd : (m n : ℕ) → 2 * m ≡ 2 * n + 1 → ⊥
-odd m n e = omega arith
-
-cell-odd : (a b p q : ℕ) → cellAt a p ≡ cellAt b q + 1 → ⊥
-cell-odd a b p q e = let z : 2 * (2048 + 64 * a + p % 64) ≡ 2 * (2048 + 64 * b + q % 64) + 1 = omega arith in odd (2048 + 64 * a + p % 64) (2048 + 64 * b + q % 64) z
+start-size : (a b p q : ℕ) → cellAt a p ≡ cellAt b q + 64 → ⊥
+start-size a b p q e = let x : p % 64 < 64 = omega arith in let y : q % 64 < 64 = omega arith in omega arith
 
 module _ (w : List ℕ) (key n p q all s l : ℕ) (whole : 16384 ≤ length w) (hk : key < 32) (hn : n < 4096) (hp : p < 96) (ha : all ≡ allOf w) where
   abbrev w₁ : List ℕ
@@ -104,7 +101,7 @@ module _ (w : List ℕ) (key n p q all s l : ℕ) (whole : 16384 ≤ length w) (
   w₂ = set w₁ (cellAt p n) s
 
   abbrev w₃ : List ℕ
-  w₃ = set w₂ (cellAt p n + 1) l
+  w₃ = set w₂ (cellAt p n + 64) l
 
   abbrev w₄ : List ℕ
   w₄ = set w₃ (1184 + key) (n + 1)
@@ -115,13 +112,13 @@ module _ (w : List ℕ) (key n p q all s l : ℕ) (whole : 16384 ≤ length w) (
   abbrev w₆ : List ℕ
   w₆ = set w₅ 1156 (all + 1)
 
-  same : (a : ℕ) → (a ≡ 1156 → ⊥) × (a ≡ 1155 → ⊥) × (a ≡ 1184 + key → ⊥) × (a ≡ cellAt p n + 1 → ⊥) × (a ≡ cellAt p n → ⊥) × (a ≡ 2048 + 64 * key + n / 64 → ⊥) → word w₆ a ≡ word w a
-  same a o = skip w₅ 1156 _ a (o .0) ∙ skip w₄ 1155 _ a (o .1) ∙ skip w₃ (1184 + key) _ a (o .2) ∙ skip w₂ (cellAt p n + 1) _ a (o .3) ∙ skip w₁ (cellAt p n) _ a (o .4) ∙ skip w (2048 + 64 * key + n / 64) _ a (o .5)
+  same : (a : ℕ) → (a ≡ 1156 → ⊥) × (a ≡ 1155 → ⊥) × (a ≡ 1184 + key → ⊥) × (a ≡ cellAt p n + 64 → ⊥) × (a ≡ cellAt p n → ⊥) × (a ≡ 2048 + 64 * key + n / 64 → ⊥) → word w₆ a ≡ word w a
+  same a o = skip w₅ 1156 _ a (o .0) ∙ skip w₄ 1155 _ a (o .1) ∙ skip w₃ (1184 + key) _ a (o .2) ∙ skip w₂ (cellAt p n + 64) _ a (o .3) ∙ skip w₁ (cellAt p n) _ a (o .4) ∙ skip w (2048 + 64 * key + n / 64) _ a (o .5)
 
   pub written : Written w w₆ key n p q (record { start = s; size = l })
   written =
       let b₁ : cellAt p n < length w₁ = simp length-set (omega arith) in
-      let b₂ : cellAt p n + 1 < length w₂ = simp length-set (omega arith) in
+      let b₂ : cellAt p n + 64 < length w₂ = simp length-set (omega arith) in
       let b₃ : 1184 + key < length w₃ = simp length-set (omega arith) in
       let b₄ : 1155 < length w₄ = simp length-set (omega arith) in
       let b₅ : 1156 < length w₅ = simp length-set (omega arith) in
@@ -133,20 +130,20 @@ module _ (w : List ℕ) (key n p q all s l : ℕ) (whole : 16384 ≤ length w) (
         counted = let a : ℕ = 1184 + key in skip w₅ 1156 _ a (omega arith) ∙ skip w₄ 1155 _ a (omega arith) ∙ hit w₃ a (n + 1) b₃;
         counts = λ k h o. same (1184 + k) (omega arith);
         page = let a : ℕ = 2048 + 64 * key + n / 64 in
-            skip w₅ 1156 _ a (omega arith) ∙ skip w₄ 1155 _ a (omega arith) ∙ skip w₃ (1184 + key) _ a (omega arith) ∙ skip w₂ (cellAt p n + 1) _ a (omega arith)
+            skip w₅ 1156 _ a (omega arith) ∙ skip w₄ 1155 _ a (omega arith) ∙ skip w₃ (1184 + key) _ a (omega arith) ∙ skip w₂ (cellAt p n + 64) _ a (omega arith)
             ∙ skip w₁ (cellAt p n) _ a (omega arith) ∙ hit w a p (omega arith);
         pages = λ k i h b o. same (2048 + 64 * k + i) (omega arith, omega arith, omega arith, omega arith, omega arith, λ e. o (omega arith) (omega arith));
         here = let a : ℕ = cellAt p n in place-eq
-            (skip w₅ 1156 _ a (omega arith) ∙ skip w₄ 1155 _ a (omega arith) ∙ skip w₃ (1184 + key) _ a (omega arith) ∙ skip w₂ (a + 1) _ a (omega arith) ∙ hit w₁ a s b₁)
-            (skip w₅ 1156 _ (a + 1) (omega arith) ∙ skip w₄ 1155 _ (a + 1) (omega arith) ∙ skip w₃ (1184 + key) _ (a + 1) (omega arith) ∙ hit w₂ (a + 1) l b₂);
+            (skip w₅ 1156 _ a (omega arith) ∙ skip w₄ 1155 _ a (omega arith) ∙ skip w₃ (1184 + key) _ a (omega arith) ∙ skip w₂ (a + 64) _ a (omega arith) ∙ hit w₁ a s b₁)
+            (skip w₅ 1156 _ (a + 64) (omega arith) ∙ skip w₄ 1155 _ (a + 64) (omega arith) ∙ skip w₃ (1184 + key) _ (a + 64) (omega arith) ∙ hit w₂ (a + 64) l b₂);
         cells = λ p′ j h o. place-eq
-            (same (cellAt p′ j) (omega arith, omega arith, omega arith, cell-odd p′ p j n, (λ e. o (cell-page p′ p j n e) (cell-on p′ p j n e)), omega arith))
-            (same (cellAt p′ j + 1) (
+            (same (cellAt p′ j) (omega arith, omega arith, omega arith, start-size p′ p j n, (λ e. o (cell-page p′ p j n e) (cell-on p′ p j n e)), omega arith))
+            (same (cellAt p′ j + 64) (
               omega arith,
               omega arith,
               omega arith,
               (λ e. let e₁ : cellAt p′ j ≡ cellAt p n = omega arith in o (cell-page p′ p j n e₁) (cell-on p′ p j n e₁)),
-              (λ e. cell-odd p p′ n j (sym e)),
+              (λ e. start-size p p′ n j (sym e)),
               omega arith,
             ));
       }
@@ -257,21 +254,20 @@ module _ (w : List ℕ) (good : Good w) (k j : ℕ) (hk : k < 32) (h : j < lengt
   pub get-in : (j < 4096) × (pageOf w k (j / 64) < 96)
   get-in = (omega (arith, counted, count-most w (good .literals) k hk, good .literals .most), page-most w (good .literals) k j hk counted)
 
-  pub get-is : {at s l : ℕ} → at ≡ cellOf w k j → s ≡ word w at → l ≡ word w (at + 1) → nth (getD (storeOf w .literals) k []) j ≡ some (record { start = s; size = l })
+  pub get-is : {at s l : ℕ} → at ≡ cellOf w k j → s ≡ word w at → l ≡ word w (at + 64) → nth (getD (storeOf w .literals) k []) j ≡ some (record { start = s; size = l })
   get-is e a b = rw (a, b, e) (literal-is w k j hk counted)
 
--- a look at the cells of a page, from that of literal i on
-module _ (w : List ℕ) (k i : ℕ) {from n size r : ℕ} (hk : k < 32) (inside : i + n ≤ length (getD (storeOf w .literals) k [])) (page : i % 64 + n ≤ 64) (at : from ≡ cellOf w k i) (s : Scans w from n size r) where
+-- a look at the sizes of a page, from that of literal i on
+module _ (w : List ℕ) (k i : ℕ) {from n size r : ℕ} (hk : k < 32) (inside : i + n ≤ length (getD (storeOf w .literals) k [])) (page : i % 64 + n ≤ 64) (at : from ≡ cellOf w k i + 64) (s : Scans w from n size r) where
   abbrev xs : List Place
   xs = getD (storeOf w .literals) k []
 
-  -- within a page literals stand side by side
-  size-on : (j : ℕ) (x : Place) → j < n → nth xs (i + j) ≡ some x → x .size ≡ word w (from + 2 * j + 1)
+  size-on : (j : ℕ) (x : Place) → j < n → nth xs (i + j) ≡ some x → x .size ≡ word w (from + j)
   size-on j x h e =
       let p : pageOf w k ((i + j) / 64) ≡ pageOf w k (i / 64) = ap (pageOf w k) (let d : (i + j) / 64 ≡ i / 64 = omega arith in d) in
       let m : (i + j) % 64 ≡ i % 64 + j = omega arith in
-      let a : cellOf w k (i + j) ≡ from + 2 * j = omega arith in
-      size-is w k (i + j) hk x e ∙ ap (λ (c : ℕ). word w (c + 1)) a
+      let a : cellOf w k (i + j) + 64 ≡ from + j = omega arith in
+      size-is w k (i + j) hk x e ∙ ap (word w) a
 
   pub scan-passed : (j : ℕ) (x : Place) → i ≤ j → j < i + r → nth xs j ≡ some x → x .size ≡ size → ⊥
   scan-passed j x h b e q =

@@ -63,7 +63,7 @@ module _ (w w′ : List ℕ) (e : (i : ℕ) → 1155 ≤ i → word w′ i ≡ w
   literals-kept = upto-ext (λ k. literalsOf w′ k) (λ k. literalsOf w k) 32 (λ k h.
       rw (e (1184 + k) (omega arith)) (upto-ext (λ j. literalOf w′ k j) (λ j. literalOf w k j) (countOf w k) (λ j b.
       let p = pageOf w k (j / 64) in
-      rw (e (2048 + 64 * k + j / 64) (omega arith)) (place-eq (e (cellAt p j) (omega arith)) (e (cellAt p j + 1) (omega arith))))))
+      rw (e (2048 + 64 * k + j / 64) (omega arith)) (place-eq (e (cellAt p j) (omega arith)) (e (cellAt p j + 64) (omega arith))))))
 
   pub good-literals-kept : GoodLiterals w → GoodLiterals w′
   good-literals-kept g =

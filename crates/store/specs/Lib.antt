@@ -2,5 +2,6 @@
 pub mod Store
 pub mod Lists
 pub mod Words
+pub mod Same
 pub mod Meaning
 pub mod Laws

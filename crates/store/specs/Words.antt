@@ -9,7 +9,8 @@
 -- 1156                      how many literals there are, all keys together
 -- 1184 + key                how many literals the key has
 -- 2048 + 64 * key + i       the page of the key's literals 64 * i to 64 * i + 63
--- 4096 + 128 * page         a start and a size for each literal of the page
+-- 4096 + 128 * page + i     the start of literal i of the page
+-- 4160 + 128 * page + i     its size: the sizes of a page stand side by side
 --
 -- 96 pages are enough: only the last page of a key can have room left, so 64 * pages is at most 4,096 + 63 * 32.
 use mathlib.Core.Path.{_≡_}
@@ -64,10 +65,10 @@ abbrev pub pageOf : List ℕ → ℕ → ℕ → ℕ
 pageOf w k i = word w (2048 + 64 * k + i)
 
 abbrev pub cellAt : ℕ → ℕ → ℕ
-cellAt p j = 4096 + 128 * p + 2 * (j % 64)
+cellAt p j = 4096 + 128 * p + j % 64
 
 abbrev pub placeAt : List ℕ → ℕ → Place
-placeAt w i = record { start = word w i; size = word w (i + 1) }
+placeAt w i = record { start = word w i; size = word w (i + 64) }
 
 abbrev pub cellOf : List ℕ → ℕ → ℕ → ℕ
 cellOf w k j = cellAt (pageOf w k (j / 64)) j
@@ -125,11 +126,15 @@ pub record Written (w w′ : List ℕ) (key n p q : ℕ) (x : Place) : Type 0 wh
   pub here : placeAt w′ (cellAt p n) ≡ x
   pub cells : (p′ j : ℕ) → p′ < 96 → (p′ ≡ p → j % 64 ≡ n % 64 → ⊥) → placeAt w′ (cellAt p′ j) ≡ placeAt w (cellAt p′ j)
 
--- Of the n cells from `from` on, the first r have another size, and the one behind them has it, if there is one.
-pub record Scans (w : List ℕ) (from n size r : ℕ) : Type 0 where
+-- None of the n words from `from` on is this one.
+abbrev pub Lacks : List ℕ → ℕ → ℕ → ℕ → Type 0
+Lacks w from n x = (i : ℕ) → i < n → word w (from + i) ≡ x → ⊥
+
+-- Of the n words from `from` on, the first r are others, and the one behind them is this one, if there is one.
+pub record Scans (w : List ℕ) (from n x r : ℕ) : Type 0 where
   pub most : r ≤ n
-  pub passed : (i : ℕ) → i < r → word w (from + 2 * i + 1) ≡ size → ⊥
-  pub here : r < n → word w (from + 2 * r + 1) ≡ size
+  pub passed : Lacks w from r x
+  pub here : r < n → word w (from + r) ≡ x
 
 -- From j up to r the literals have another size, and r has it, if there is one.
 pub record Seeks (literals : List Place) (j size r : ℕ) : Type 0 where

@@ -1,13 +1,14 @@
 // The lent work as a store: a reading place for each key touched so far, one more of no key, and the numbered literals of each key.
 // A place or a literal is found in constant time. What each word means, and why they are enough, stands in specs/Words.antt.
 ghost use mathlib.Core.Path.{_≡_};
+ghost use mathlib.Core.Bool.{false};
 ghost use mathlib.Core.List.{[]};
 ghost use mathlib.Core.Option.{none, some};
 ghost use Prim.Native.Nat.{_+_, _*_, _%_, _<_, _≤_, _^_};
 ghost use lib.ListN.{length, getD};
 ghost use Rattle.format.specs.Read.{nth, total as totalOf};
 ghost use Rattle.store.specs.Store.{empty, lookup, opened, advanced, rested, added, unnumbered};
-ghost use Rattle.store.specs.Words.{storeOf, Good, Changes, pages as pagesOf, allOf, cellOf, nextPage, Written, Scans, Seeks};
+ghost use Rattle.store.specs.Words.{storeOf, Good, Changes, pages as pagesOf, allOf, cellOf, nextPage, Written, Lacks, Scans, Seeks};
 ghost use Rattle.store.specs.Meaning.{place, reading, touched, slot, Small};
 
 // The keys of the slots, in order.
@@ -43,8 +44,11 @@ const COUNT_END: usize = 1216;
 // The pages of each key's literals, 64 words for a key.
 const PAGE: usize = 2048;
 
-// What stands on the pages: 64 literals each, a start and a size for a literal.
+// What stands on the pages: 64 literals each, their starts and then their sizes.
 const CELL: usize = 4096;
+
+// From a start to its size.
+const SIZE: usize = 64;
 
 // The place of a literal.
 pub struct Place {
@@ -199,12 +203,12 @@ pub fn count(work: &[u32], key: usize) -> usize
     wide(work[COUNT + key])
 }
 
-// Where literal j of a key stands. The rest of its page lies within the work.
+// Where the start of literal j of a key stands. Its page lies within the work.
 fn cell(work: &[u32], key: usize, j: usize) -> usize
     requires { ⌜ (Good (now work)) × (key < 32) × (j < length (getD (storeOf (now work) .literals) key [])) ⌝ }
-    ensures { λ r. ⌜ (r ≡ cellOf (now (work .entry)) key j) × (r + 128 ≤ 16384 + 2 * (j % 64)) ⌝ }
+    ensures { λ r. ⌜ (r ≡ cellOf (now (work .entry)) key j) × (r + 128 ≤ 16384 + j % 64) ⌝ }
 {
-    CELL + 128 * wide(work[PAGE + 64 * key + j / 64]) + 2 * (j % 64)
+    CELL + 128 * wide(work[PAGE + 64 * key + j / 64]) + j % 64
 }
 
 // Literal j of a key.
@@ -215,33 +219,58 @@ pub fn get(work: &[u32], key: usize, j: usize) -> Place
 {
     let at = cell(work, key, j);
     let start = wide(work[at]);
-    let size = wide(work[at + 1]);
+    let size = wide(work[at + SIZE]);
     Place { start, size }
 }
 
-// How many literals from j on, of n, stand on the page of j.
+// How many literals from j on, of n, to look at together: they stand on one page.
 fn on_page(j: usize, n: usize) -> usize
     requires { ⌜ j < n ⌝ }
     ensures { λ r. ⌜ (0 < r) × (j + r ≤ n) × (j % 64 + r ≤ 64) ⌝ }
 {
-    let rest = 64 - j % 64;
+    let rest = 16 - j % 16;
     if n - j < rest {
         return n - j;
     }
     rest
 }
 
-// How many of n cells stand before the first that has this size.
-fn scan(work: &[u32], from: usize, n: usize, size: usize) -> usize
-    requires { ⌜ (from + 2 * n ≤ length (now work)) × (from + 2 * n ≤ 16384) ⌝ }
-    ensures { λ r. ⌜ Scans (now (work .entry)) from n size r ⌝ }
+// Whether one of n words is this one. No way leads out of the middle of the loop, so that one instruction can look at many words.
+fn has(work: &[u32], from: usize, n: usize, x: u32) -> bool
+    requires { ⌜ (from + n ≤ length (now work)) × (from + n ≤ 16384) ⌝ }
+    ensures { λ r. ⌜ (r ≡ false → Lacks (now (work .entry)) from n x) ⌝ }
+{
+    let mut any = false;
+    let mut i = 0;
+    while i < n {
+        any = any | (work[from + i] == x);
+        i += 1;
+    }
+    any
+}
+
+// How many of n words stand before the first that is this one.
+fn scan(work: &[u32], from: usize, n: usize, x: u32) -> usize
+    requires { ⌜ (from + n ≤ length (now work)) × (from + n ≤ 16384) ⌝ }
+    ensures { λ r. ⌜ Scans (now (work .entry)) from n x r ⌝ }
 {
     let mut i = 0;
     while i < n {
-        if wide(work[from + 2 * i + 1]) == size {
+        if work[from + i] == x {
             return i;
         }
         i += 1;
+    }
+    n
+}
+
+// The same. Mostly none of them is this one, and they are passed together.
+fn pass_over(work: &[u32], from: usize, n: usize, x: u32) -> usize
+    requires { ⌜ (from + n ≤ length (now work)) × (from + n ≤ 16384) ⌝ }
+    ensures { λ r. ⌜ Scans (now (work .entry)) from n x r ⌝ }
+{
+    if has(work, from, n, x) {
+        return scan(work, from, n, x);
     }
     n
 }
@@ -252,11 +281,16 @@ pub fn seek(work: &[u32], key: usize, j: usize, size: usize) -> usize
     ensures { λ r. ⌜ Seeks (getD (storeOf (now (work .entry)) .literals) key []) j size r ⌝ }
 {
     let n = count(work, key);
+    // no word is as large
+    if 4294967296 <= size {
+        return n;
+    }
+    let x = size as u32;
     let mut i = j;
     while i < n {
         let there = on_page(i, n);
-        let from = cell(work, key, i);
-        let passed = scan(work, from, there, size);
+        let from = cell(work, key, i) + SIZE;
+        let passed = pass_over(work, from, there, x);
         i += passed;
         if passed < there {
             return i;
@@ -299,10 +333,10 @@ fn write(
     ensures { λ _. ⌜ Written (now (work .entry)) (now (work .exit)) key n page next (record { start = start; size = size }) ⌝ }
 {
     let all = wide(work[TOTAL]);
-    let at = CELL + 128 * page + 2 * (n % 64);
+    let at = CELL + 128 * page + n % 64;
     work[PAGE + 64 * key + n / 64] = page as u32;
     work[at] = start as u32;
-    work[at + 1] = size as u32;
+    work[at + SIZE] = size as u32;
     work[COUNT + key] = (n + 1) as u32;
     work[TAKEN] = next as u32;
     work[TOTAL] = (all + 1) as u32;

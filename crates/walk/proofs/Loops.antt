@@ -15,10 +15,11 @@ use Rattle.laws.specs.Kinds.{node-top, by-no-field}
 use Rattle.label.specs.declared.cursor.Cursor.{Cursor}
 use Rattle.pieces.specs.Pieces.{Inside}
 use Rattle.store.specs.Words.{word}
+use Rattle.store.specs.Same.{Same, same-self, same-then}
 use Rattle.leaf.specs.declared.Step.{Step}
 use Rattle.leaf.specs.declared.Step.the-variants.{Done, Refused}
-use Rattle.leaf.specs.State.{mostRows, Ready, stateOf, Same, Does}
-use Rattle.leaf.specs.Does.{along, ends, seqs, seqs-not, same-self, same-then, done-ready, done-inside, done-same}
+use Rattle.leaf.specs.State.{mostRows, Ready, stateOf, Does}
+use Rattle.leaf.specs.Does.{along, ends, seqs, seqs-not, done-ready, done-inside, done-same}
 use Rattle.typed.specs.Typed.{Sized, heldIn, IsNode, AreFields, FitsNode, FitFields}
 use Rattle.typed.specs.Nodes.{node-some, node-kept, First, first-of, first-depth}
 use Rattle.walk.specs.Opening.{valueAt}

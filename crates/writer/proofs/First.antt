@@ -15,6 +15,7 @@ use Rattle.format.specs.Read.{nth}
 use Rattle.format.specs.Write.{Event, Rest, fitField, eventsOf}
 use Rattle.store.specs.Store.{empty}
 use Rattle.store.specs.Words.{Changes}
+use Rattle.store.specs.Same.{Same, same-then}
 use Rattle.laws.specs.Facts.{absurd-some, bind-is}
 use Rattle.theory.specs.Lists.{empty-lists}
 use Rattle.theory.specs.Sent.{length-shown}
@@ -29,8 +30,8 @@ use Rattle.fit.specs.declared.Step.{Step}
 use Rattle.fit.specs.declared.Step.the-variants as steps
 use Rattle.fit.specs.declared.Pass.{Pass}
 use Rattle.fit.specs.Rest.{restOf}
-use Rattle.fit.specs.Writes.{Same, Holds, Emitted, Writes}
-use Rattle.fit.specs.Laws.{same-then, counts, done-holds, done-same}
+use Rattle.fit.specs.Writes.{Holds, Emitted, Writes}
+use Rattle.fit.specs.Laws.{counts, done-holds, done-same}
 use Rattle.fit.specs.Opens.{fitValue}
 use Rattle.pass.specs.Pass.{WritesNode}
 use Rattle.writer.specs.Writer.{Within, Passes, eventsIn, Counted}

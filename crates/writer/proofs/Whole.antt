@@ -21,9 +21,9 @@ use Rattle.plan.specs.Layout.{messageLength}
 use Rattle.plan.specs.Passes.{counted-length}
 use Rattle.emit.specs.State.{planOf, slotsOf}
 use Rattle.store.specs.Words.{storeOf}
+use Rattle.store.specs.Same.{Same}
 use Rattle.typed.specs.Typed.{heldIn, Kept}
 use Rattle.typed.specs.Root.{kept-held}
-use Rattle.fit.specs.Writes.{Same}
 use Rattle.writer.specs.declared.Size.{Size}
 use Rattle.writer.specs.declared.Size.the-variants.{Bytes, Refused}
 use Rattle.writer.specs.Writer.{Within, eventsIn, messageIn, Counted, CountedBy, CountsIn, isOver, roomFor, Fits, PutsIn, MadeBy, Makes}

@@ -11,12 +11,12 @@ use Rattle.format.specs.Table.{schemaOf}
 use Rattle.format.specs.Row.{rowCount, shown}
 use Rattle.format.specs.Write.{Event, eventsOf, messageOf, writeChecked}
 use Rattle.store.specs.Words.{storeOf}
+use Rattle.store.specs.Same.{Same}
 use Rattle.plan.specs.Plan.{blank, emitEvents}
 use Rattle.plan.specs.Layout.{messageLength}
 use Rattle.emit.specs.State.{planOf, slotsOf, Ready}
 use Rattle.typed.specs.Typed.{heldIn, Kept}
 use Rattle.fit.specs.declared.Pass.{Pass}
-use Rattle.fit.specs.Writes.{Same}
 use Rattle.pass.specs.Pass.{Suits}
 use Rattle.writer.specs.declared.Size.{Size}
 use Rattle.writer.specs.declared.Size.the-variants.{Bytes, Refused}

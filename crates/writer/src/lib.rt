@@ -14,15 +14,10 @@ ghost use Rattle.writer.specs.Writer.{Within, Passes, isOver, roomFor, C
 ghost use Rattle.writer.specs.Demands.{Answers, Accepts, RoundTrip, Shortest, NoRoom, Rewrites};
 use fit::Pass;
 use fit::Step;
+use format::MOST_BYTES;
+use format::MOST_ROWS;
+use format::ROW_WIDTH;
 use table::Answer;
-
-// A row's words: its kind, a and b.
-const ROW_WIDTH: usize = 3;
-
-// The most rows, and the most bytes of a pool or a message.
-const MOST_ROWS: usize = 8192;
-
-const MOST_BYTES: usize = 65536;
 
 // So many bytes; or a refusal's number and second number.
 enum Size {

@@ -35,9 +35,6 @@ mul-result c = search needs
 add-result : tie.Need-add-result
 add-result c = search needs
 
-mul-result-2 : tie.Need-mul-result-2
-mul-result-2 c = search needs
-
 add-result-2 : tie.Need-add-result-2
 add-result-2 c = search needs
 
@@ -59,6 +56,5 @@ cell-spec =
     wide-requires
     mul-result
     add-result
-    mul-result-2
     add-result-2
     returns)

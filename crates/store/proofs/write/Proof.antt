@@ -19,9 +19,6 @@ mul-at c = search needs
 add-at : tie.Need-add-at
 add-at c = search needs
 
-mul-at-2 : tie.Need-mul-at-2
-mul-at-2 c = search needs
-
 add-at-2 : tie.Need-add-at-2
 add-at-2 c = search needs
 
@@ -110,7 +107,6 @@ write-spec =
     wide-requires
     mul-at
     add-at
-    mul-at-2
     add-at-2
     cast-work
     mul-work
