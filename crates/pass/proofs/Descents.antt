@@ -15,6 +15,7 @@ use Rattle.fit.specs.declared.Step.{Step}
 use Rattle.fit.specs.declared.Step.the-variants.{Done, Refused}
 use Rattle.fit.specs.declared.Pass.{Pass}
 use Rattle.fit.specs.Rest.{restOf}
+use Rattle.fit.specs.Fits.{value-there}
 use Rattle.fit.specs.Opens.{fitRecord}
 use Rattle.fit.specs.Writes.{Holds}
 use Rattle.fit.specs.Row.{Marks, WritesRow}
@@ -24,7 +25,7 @@ use Rattle.pass.specs.declared.descent.Descent.{Descent}
 use Rattle.pass.specs.declared.descent.Descent.the-variants.{To, Stop}
 use Rattle.pass.specs.Pass.{WritesNode, WritesWire}
 use Rattle.pass.specs.Descent.{OneEntry, OneField, Alone, Enters, Stands, Onward, Leads, Stops, Descends}
-use Rattle.pass.proofs.Values.{word-there, row-holds, mark-holds, marks-as, own-fits, fields-fit, entry-fits, value-here, record-not, record-then, array-refused, array-then}
+use Rattle.pass.proofs.Values.{row-holds, mark-holds, marks-as, own-fits, fields-fit, entry-fits, value-here, record-not, record-then, array-refused, array-then}
 use Rattle.pass.proofs.Loops.{fields-begin, fields-fits}
 use Rattle.pass.proofs.Runs.{entry-alone, field-alone}
 
@@ -49,7 +50,7 @@ module _ (how : Pass) (table pool rows out w : List ℕ) (i core node : ℕ) (ho
 
       entry-onward : {put : Bool} {i₁ core₁ : ℕ} → r₁ ≡ Done i₁ core₁ → Onward put table pool rows out core i node false out₁ core₁ i₁ (node + 1) false how w
       entry-onward q = record {
-        holds = mark-holds holds (word-there pool rows i arrayRow (x .row)) d q;
+        holds = mark-holds holds (value-there pool rows i arrayRow (x .row)) d q;
         fits = entry-fits table w node {count = 1} (x .kind) (wire-fits no-front-entry) .entries refl;
         whole = λ y. plain no-front-entry (array-then how table pool rows out w i core node holds (x .kind) (x .row) (omega arith) (marks-as (sym (integer-low (omega arith))) d) q (entry-alone y));
       }

@@ -36,7 +36,7 @@ use Rattle.fit.specs.Judged.{valueIn}
 use Rattle.fit.specs.Writes.{Holds, Writes}
 use Rattle.fit.specs.Laws.{joined, along, refuses, done-holds, seqs, seqs-not}
 use Rattle.fit.specs.Used.{node-uses, entries-use}
-use Rattle.fit.specs.Fits.{looked, found-there}
+use Rattle.fit.specs.Fits.{looked, value-there}
 use Rattle.fit.specs.Opens.{fitValue, fitTruth, boolean-truth, fitRecord, record-first, array-not, array-is}
 use Rattle.fit.specs.Row.{Marks, WritesRow, OpensGone, OpensHere, Opens, WritesText, leafOf}
 use Rattle.pass.specs.Pass.{Runs, WritesNode, WritesWire, WritesFields, WritesEntries}
@@ -47,10 +47,6 @@ row-holds {w = w} h d q = done-holds (d .writes 0 (heldIn []) w h) q
 
 pub mark-holds : {put : Bool} {pool rows out out′ w : List ℕ} {i core i′ core′ : ℕ} {r : Step} {l : ℤ} → Holds pool rows w i core → i < rowCount rows → Marks put out out′ i core r l → r ≡ Done i′ core′ → Holds pool rows w i′ core′
 mark-holds {pool = pool} {rows} h t d q = row-holds h (d .writes pool rows t) q
-
-pub word-there : (pool rows : List ℕ) (i kind : ℕ) {n : ℕ} → valueIn kind (looked pool rows i) ≡ some n → i < rowCount rows
-unfolding valueIn
-word-there pool rows i kind e = found-there pool rows i (valueIn kind) (λ n j. refl) e
 
 leaf-back : (l : Leaf) → leafOf (leafIn l) ≡ l
 unfolding leafOf leafIn
@@ -192,7 +188,7 @@ module _ (how : Pass) (table pool rows out w : List ℕ) (i core node : ℕ) (ho
 
     module _ {n : ℕ} {out₁ : List ℕ} {r₁ : Step} (e : valueIn arrayRow (looked pool rows i) ≡ some n) (b : n < 2 ^ 64) (d : Marks (how .put) out out₁ i core r₁ (integer n)) where
       mark-does : (modes : ℕ) → Writes (how .put) modes (heldIn table) pool rows out w core out₁ w r₁ (ok (mark (integer n) ∷ [], restOf pool rows (i + 1)))
-      mark-does modes = d .writes pool rows (word-there pool rows i arrayRow e) .writes modes (heldIn table) w holds
+      mark-does modes = d .writes pool rows (value-there pool rows i arrayRow e) .writes modes (heldIn table) w holds
 
       pub array-refused : {r : Step} {m j : ℕ} → r₁ ≡ Refused m j → r ≡ r₁ → WritesWire how table pool rows out w core out₁ w r i node false
       array-refused q t = rw t (record {

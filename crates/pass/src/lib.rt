@@ -5,7 +5,7 @@ ghost use mathlib.Core.Bool.{false};
 ghost use Prim.Native.Nat.{_+_, _*_, _≤_, _<_, _^_};
 ghost use lib.ListN.{length};
 ghost use Rattle.format.specs.Table.{nodeAt, RECORD, ARRAY, BLOCK};
-ghost use Rattle.typed.specs.Typed.{Sized, FitsNode, FitsWire, below as belowOf};
+ghost use Rattle.typed.specs.Typed.{Sized, FitsNode, FitsWire};
 ghost use Rattle.typed.specs.Run.{FitRun};
 ghost use Rattle.fit.specs.Writes.{Holds};
 ghost use Rattle.pass.specs.Pass.{WritesNode, WritesWire, WritesRun};
@@ -28,17 +28,6 @@ fn again(r: Step) -> Step
         Step::Refused(number, second) => Step::Refused(number, second),
         Step::Done(next, core) => Step::Done(next, core),
     }
-}
-
-// The value's own node, below a NULLABLE or not.
-fn below(nullable: bool, node: usize) -> usize
-    requires { ⌜ node < 1024 ⌝ }
-    ensures { λ r. ⌜ r ≡ belowOf nullable node ⌝ }
-{
-    if nullable {
-        return node + 1;
-    }
-    node
 }
 
 // The value of a BLOCK.
@@ -96,7 +85,7 @@ fn value(
     match first {
         Opening::Gone(step) => step,
         Opening::Here(labelled) => {
-            let own = below(nullable, node);
+            let own = typed::below(nullable, node);
             wire(table, rows, pool, out, work, how, labelled, own, i, core)
         }
     }

@@ -1,9 +1,11 @@
 // The wire type that a checked table has at a node, for the walks of the reader and of the writer; most of it is in specs/.
-// And of a run of values, which both go over by one loop: whether a value may be absent, and where the next one's node is.
+// And what both walks ask on their way: whether a value of a run may be absent, where its own node is, and where the
+// next value's node is.
 ghost use mathlib.Core.Path.{_≡_};
 ghost use Prim.Native.Nat.{_+_, _*_, _≤_, _<_};
 ghost use lib.ListN.{length};
 ghost use Rattle.format.specs.Table.{nodeAt};
+ghost use Rattle.typed.specs.Typed.{below as belowOf};
 ghost use Rattle.typed.specs.Run.{absentIn, nextIn};
 use table::nodes;
 
@@ -16,6 +18,17 @@ pub fn may_be_absent(table: &[u8], node: usize, repeated: bool) -> bool
         return false;
     }
     nodes::is_omittable(table, node)
+}
+
+// The value's own node, behind a NULLABLE or not.
+pub fn below(nullable: bool, node: usize) -> usize
+    requires { ⌜ node < 1024 ⌝ }
+    ensures { λ r. ⌜ r ≡ belowOf nullable node ⌝ }
+{
+    if nullable {
+        return node + 1;
+    }
+    node
 }
 
 // The node of the next value.

@@ -82,7 +82,7 @@ fn value(
         Opening::Refused(number) => Step::Refused(number),
         Opening::Gone(row, next) => push::row(rows, n, row, 0, 0, next),
         Opening::Here(front, next) => {
-            let i = opening::below(nullable, node);
+            let i = typed::below(nullable, node);
             wire(table, m, rows, work, modes, i, front, next, n, left)
         }
     }

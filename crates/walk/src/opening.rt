@@ -1,9 +1,7 @@
 // What stands in front of a value that may be absent or null.
 ghost use mathlib.Core.Path.{_≡_};
 ghost use mathlib.Core.Bool.{true};
-ghost use Prim.Native.Nat.{_<_};
 ghost use Rattle.pieces.specs.Pieces.{Inside};
-ghost use Rattle.typed.specs.Typed.{below as belowOf};
 ghost use Rattle.walk.specs.Opening.{nullOr, absentOr, meantOf, labelled as labelledOf, opened, Opens};
 use label::Cursor;
 use label::Label;
@@ -90,15 +88,4 @@ pub fn open(m: &[u8], modes: u64, omittable: bool, nullable: bool, c: Cursor) ->
         return labelled(m, modes, omittable, nullable, c);
     }
     Opening::Here(Front::Open, c)
-}
-
-// The value's own node.
-pub fn below(nullable: bool, node: usize) -> usize
-    requires { ⌜ node < 1024 ⌝ }
-    ensures { λ r. ⌜ r ≡ belowOf nullable node ⌝ }
-{
-    if nullable {
-        return node + 1;
-    }
-    node
 }

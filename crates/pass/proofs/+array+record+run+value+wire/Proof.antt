@@ -3,7 +3,7 @@ use borrow.Author.Needs.{needs}
 use native.Mathlib.Omega.{arith}
 use denote.Ref.{now}
 use mathlib.Core.Path.{refl, sym, ap, _∙_, subst}
-use Rattle.pass.proofs.Values.{begins, row-holds, mark-holds, word-there, marks-as, opened-gone, opened-here, own-fits, own-onward, fields-fit, entry-fits, value-gone, value-here, wire-boolean, wire-array, record-not, record-then, array-none, array-refused, array-then}
+use Rattle.pass.proofs.Values.{begins, row-holds, mark-holds, marks-as, opened-gone, opened-here, own-fits, own-onward, fields-fit, entry-fits, value-gone, value-here, wire-boolean, wire-array, record-not, record-then, array-none, array-refused, array-then}
 use Rattle.pass.proofs.Runs.{RunAt, run-begin, run-fits, run-not, run-again, run-end, no-fields}
 use Rattle.pass.specs.Descent.{stepOf}
 use Rattle.pass.proofs.Descents.{led-on, stopped}
@@ -15,6 +15,7 @@ use Rattle.format.specs.Table.{NULLABLE}
 use Rattle.format.specs.Row.{arrayRow}
 use Rattle.typed.specs.Nodes.{node-inside, wire-inside, block-inside}
 use Rattle.fit.specs.Judged.{word, Small}
+use Rattle.fit.specs.Fits.{value-there}
 use Rattle.fit.proofs.Facts.{told}
 use Prim.Native.Nat.{ℕ, _<_}
 use borrow.Fn.Kinds.{In}
@@ -41,7 +42,7 @@ use Rattle.fit.proofs.record.Reads as record-reads
 use Rattle.fit.proofs.row.word_at.Reads as word-at-reads
 use Rattle.label.proofs.integer_of.Reads as integer-of-reads
 use Rattle.pass.proofs.again.Reads as again-reads
-use Rattle.pass.proofs.below.Reads as below-reads
+use Rattle.typed.proofs.below.Reads as below-reads
 use Rattle.pass.proofs.block.Reads as block-reads
 use Rattle.pass.proofs.descent.descend.Reads as descend-reads
 use Rattle.pass.proofs.descent.step.Reads as step-reads
@@ -173,7 +174,7 @@ array-run-requires t c κs =
     let c19 = c13 .before .before .before .before .before .before in
     let a = c19 .args in
     let b = wire-inside (now (a .table)) (now (a .work)) (a .node) 32 (c19 .pre .1 .2) (c19 .pre .1 .1) in
-    (omega (arith, c19 .pre .0, b .1), (mark-holds (c19 .pre .1 .0) (word-there (now (a .pool)) (now (a .rows)) (a .i) arrayRow (told word (c13 .word-at .ensures .0) (c11 .count .given .1))) (c7 .mark .ensures) (c3 .r .given .1), (c19 .pre .1 .1), entry-fits (now (a .table)) (now (a .work)) (a .node) (c19 .pre .1 .3) (c19 .pre .1 .2)))
+    (omega (arith, c19 .pre .0, b .1), (mark-holds (c19 .pre .1 .0) (value-there (now (a .pool)) (now (a .rows)) (a .i) arrayRow (told word (c13 .word-at .ensures .0) (c11 .count .given .1))) (c7 .mark .ensures) (c3 .r .given .1), (c19 .pre .1 .1), entry-fits (now (a .table)) (now (a .work)) (a .node) (c19 .pre .1 .3) (c19 .pre .1 .2)))
 
 array-same-length-2 : (t : ℕ) → array-lts.Need-same-length-2 (array-uses t) (array-at t) array.Post
 array-same-length-2 t c = search needs

@@ -44,7 +44,7 @@ use Rattle.walk.proofs.block.Reads as block-reads
 use Rattle.typed.proofs.may_be_absent.Reads as may-be-absent-reads
 use Rattle.typed.proofs.next_node.Reads as next-node-reads
 use Rattle.walk.proofs.descent.descend.Reads as descend-reads
-use Rattle.walk.proofs.opening.below.Reads as below-reads
+use Rattle.typed.proofs.below.Reads as below-reads
 use Rattle.walk.proofs.opening.open.Reads as open-reads
 use Rattle.walk.proofs.+array+record+run+value+wire.{statement}
 use Rattle.walk.proofs.+array+record+run+value+wire.Tie.{close}

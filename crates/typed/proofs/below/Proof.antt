@@ -1,8 +1,8 @@
--- `pass::below` meets its contract.
+-- `typed::below` meets its contract.
 use mathlib.Core.Path.{refl}
 use borrow.Author.Needs.{needs}
-use Rattle.pass.proofs.below.Statement.{statement}
-use Rattle.pass.proofs.below.Tie as tie
+use Rattle.typed.proofs.below.Statement.{statement}
+use Rattle.typed.proofs.below.Tie as tie
 
 add-result : tie.Need-add-result
 add-result c = search needs
