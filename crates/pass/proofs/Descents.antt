@@ -34,7 +34,7 @@ use Rattle.pass.proofs.Runs.{entry-alone, field-alone}
 module _ (how : Pass) (table pool rows out w : List ℕ) (i core node : ℕ) (holds : Holds pool rows w i core) (fits : FitsNode table w 32 node) (whole : Sized table) where
   -- nothing stands in front of a value that is neither omittable nor nullable
   module _ (z : eqb (nodeAt table node .kind) NULLABLE ≡ false) where
-    plain : {out′ w′ : List ℕ} {r : Step} → WritesWire how table pool rows out w core out′ w′ r i node false → WritesNode how table pool rows out w core out′ w′ r i node false
+    pub plain : {out′ w′ : List ℕ} {r : Step} → WritesWire how table pool rows out w core out′ w′ r i node false → WritesNode how table pool rows out w core out′ w′ r i node false
     plain d = value-here how table pool rows out w i core node holds (sym z) (open-plain false false refl refl) refl d
 
     wire-fits : FitsWire table w 32 node

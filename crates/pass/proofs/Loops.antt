@@ -45,7 +45,7 @@ node-as e d = rw (← e) d
 pub record Leads (put : Bool) (modes : ℕ) (held : ℕ → Held) (pool rows out w : List ℕ) (core : ℕ) (a : Answer (List Event × Rest)) (out₁ w₁ : List ℕ) (core₁ : ℕ) (a₁ : Answer (List Event × Rest)) : Type 0 where
   pub onward : {out₂ w₂ : List ℕ} {r : Step} → Writes put modes held pool rows out₁ w₁ core₁ out₂ w₂ r a₁ → Writes put modes held pool rows out w core out₂ w₂ r a
 
-leads-self : {put : Bool} {modes : ℕ} {held : ℕ → Held} {pool rows out w : List ℕ} {core : ℕ} {a : Answer (List Event × Rest)} → Leads put modes held pool rows out w core a out w core a
+pub leads-self : {put : Bool} {modes : ℕ} {held : ℕ → Held} {pool rows out w : List ℕ} {core : ℕ} {a : Answer (List Event × Rest)} → Leads put modes held pool rows out w core a out w core a
 leads-self = record { onward = λ d. d }
 
 -- ---- entries

@@ -102,7 +102,7 @@ entries-one : (f : Fit) (r : Rest) → fitEntries 1 f r ≡ f r
 unfolding fitEntries _>>=_
 entries-one f r = alone (f r)
 
-all-one : (held : ℕ → Held) (o : Bool) (v : Node) (vs : Fields) (r : Rest) → fieldCount vs ≡ 0 → fitAll held (field o v vs) r ≡ fitValue held o v r
+pub all-one : (held : ℕ → Held) (o : Bool) (v : Node) (vs : Fields) (r : Rest) → fieldCount vs ≡ 0 → fitAll held (field o v vs) r ≡ fitValue held o v r
 unfolding _>>=_
 all-one held o v vs r z =
     let n : (t : Rest) → fitAll held vs t ≡ ok ([], t) = λ t. all-none held vs t z in

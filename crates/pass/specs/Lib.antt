@@ -1,3 +1,5 @@
 -- What a pass over the rows does.
 pub mod Pass
 pub mod Descent
+pub mod Group
+pub mod Start

@@ -9,6 +9,7 @@ ghost use Rattle.typed.specs.Typed.{Sized, FitsNode, FitsWire};
 ghost use Rattle.typed.specs.Run.{FitRun};
 ghost use Rattle.fit.specs.Writes.{Holds};
 ghost use Rattle.pass.specs.Pass.{WritesNode, WritesWire, WritesRun};
+ghost use Rattle.pass.specs.Group.{FitGroup, WritesGroup};
 use descent::Descent;
 use fit::Opening;
 use fit::Pass;
@@ -16,9 +17,11 @@ use fit::Step;
 use fit::row;
 use fit::row::Word;
 use rows::kind;
+use start::Start;
 use table::nodes;
 
 pub mod descent;
+pub mod start;
 
 // The same answer, made anew: a copy of it would go through memory, which takes longer.
 fn again(r: Step) -> Step
@@ -195,9 +198,83 @@ fn array(
     )
 }
 
+// Values one after another: the fields of a record, or one value alone. The first may be absent if `omittable` says so.
+fn fields(
+    table: &[u8],
+    rows: &[u64],
+    pool: &[u8],
+    out: &mut [u8],
+    work: &mut [u32],
+    how: Pass,
+    omittable: bool,
+    node: usize,
+    count: usize,
+    i: usize,
+    core: usize,
+) -> Step
+    requires { ⌜ (Holds (now pool) (now rows) (now work) i core) × Sized (now table) × FitGroup (now table) (now work) node count ⌝ }
+    ensures { λ r. ⌜ WritesGroup how (now (table .entry)) (now (pool .entry)) (now (rows .entry)) (now (out .entry)) (now (work .entry)) core (now (out .exit)) (now (work .exit)) r i node omittable count ⌝ }
+{
+    let mut k = count;
+    let mut at = node;
+    let mut n = i;
+    let mut end = core;
+    let mut absent = omittable;
+    loop {
+        let r = value(table, rows, pool, out, work, how, absent, at, n, end);
+        let Step::Done(row, far) = r else {
+            return again(r);
+        };
+        k -= 1;
+        if k == 0 {
+            return Step::Done(row, far);
+        }
+        at = nodes::end_at(work, at);
+        absent = nodes::is_omittable(table, at);
+        n = row;
+        end = far;
+    }
+}
+
+// The value at a node, as `value`; but a record's fields are written where it stands, with no call for each record.
+fn entire(
+    table: &[u8],
+    rows: &[u64],
+    pool: &[u8],
+    out: &mut [u8],
+    work: &mut [u32],
+    how: Pass,
+    omittable: bool,
+    node: usize,
+    i: usize,
+    core: usize,
+) -> Step
+    requires { ⌜ (Holds (now pool) (now rows) (now work) i core) × Sized (now table) × FitsNode (now table) (now work) 32 node ⌝ }
+    ensures { λ r. ⌜ WritesNode how (now (table .entry)) (now (pool .entry)) (now (rows .entry)) (now (out .entry)) (now (work .entry)) core (now (out .exit)) (now (work .exit)) r i node omittable ⌝ }
+{
+    let s = start::begin(table, rows, pool, out, how.put, omittable, node, i, core);
+    let Start::Values(first, count, absent, n, end) = s else {
+        return start::step(s);
+    };
+    fields(
+        table,
+        rows,
+        pool,
+        out,
+        work,
+        how,
+        absent,
+        first,
+        count,
+        n,
+        end,
+    )
+}
+
 // So many values: entries, which all have the type at `node`, or fields, the first of them at `node`. One loop for both,
 // so that a call is made for what a record or an array holds, and none for each value; nor for what one holds that has
-// one value alone, which `descend` comes to by itself. What differs from call to call comes first: it goes in registers.
+// one value alone, which `descend` comes to by itself, nor for the fields of a record of the run, which `entire` writes.
+// What differs from call to call comes first: it goes in registers.
 // A count of entries may be any word: the first row that is missing ends them.
 fn run(
     i: usize,
@@ -226,7 +303,7 @@ fn run(
         let Descent::To(inner, absent, first, far) = d else {
             return descent::step(d);
         };
-        let r = value(table, rows, pool, out, work, how, absent, inner, first, far);
+        let r = entire(table, rows, pool, out, work, how, absent, inner, first, far);
         let Step::Done(next, further) = r else {
             return again(r);
         };

@@ -7,6 +7,8 @@ use Rattle.pass.proofs.Values.{begins, row-holds, mark-holds, marks-as,
 use Rattle.pass.proofs.Runs.{RunAt, run-begin, run-fits, run-not, run-again, run-end, no-fields}
 use Rattle.pass.specs.Descent.{stepOf}
 use Rattle.pass.proofs.Descents.{led-on, stopped}
+use Rattle.pass.proofs.Groups.{GroupAt, group-begin, group-fits, group-not, group-again, group-end}
+use Rattle.pass.proofs.Starts.{begun, ended}
 use lib.Dec.{eqb}
 use Prim.Native.Nat.{_+_, _-_, _*_}
 use mir.Syntax.{w64}
@@ -22,19 +24,25 @@ use borrow.Fn.Kinds.{In}
 use borrow.Fn.PlainCycle.{Measures, is, falls, and}
 use Rattle.pass.proofs.array.Reads as array
 use Rattle.pass.proofs.array.Kinds as array-kinds
-use Rattle.pass.proofs.+array+record+run+value+wire.Lts-array as array-lts
-use Rattle.pass.proofs.run.Reads as run
-use Rattle.pass.proofs.run.Kinds as run-kinds
-use Rattle.pass.proofs.+array+record+run+value+wire.Lts-run as run-lts
+use Rattle.pass.proofs.+array+entire+fields+record+run+value+wire.Lts-array as array-lts
+use Rattle.pass.proofs.entire.Reads as entire
+use Rattle.pass.proofs.entire.Kinds as entire-kinds
+use Rattle.pass.proofs.+array+entire+fields+record+run+value+wire.Lts-entire as entire-lts
+use Rattle.pass.proofs.fields.Reads as fields
+use Rattle.pass.proofs.fields.Kinds as fields-kinds
+use Rattle.pass.proofs.+array+entire+fields+record+run+value+wire.Lts-fields as fields-lts
 use Rattle.pass.proofs.record.Reads as «record»
 use Rattle.pass.proofs.record.Kinds as record-kinds
-use Rattle.pass.proofs.+array+record+run+value+wire.Lts-record as record-lts
+use Rattle.pass.proofs.+array+entire+fields+record+run+value+wire.Lts-record as record-lts
+use Rattle.pass.proofs.run.Reads as run
+use Rattle.pass.proofs.run.Kinds as run-kinds
+use Rattle.pass.proofs.+array+entire+fields+record+run+value+wire.Lts-run as run-lts
 use Rattle.pass.proofs.value.Reads as value
 use Rattle.pass.proofs.value.Kinds as value-kinds
-use Rattle.pass.proofs.+array+record+run+value+wire.Lts-value as value-lts
+use Rattle.pass.proofs.+array+entire+fields+record+run+value+wire.Lts-value as value-lts
 use Rattle.pass.proofs.wire.Reads as wire
 use Rattle.pass.proofs.wire.Kinds as wire-kinds
-use Rattle.pass.proofs.+array+record+run+value+wire.Lts-wire as wire-lts
+use Rattle.pass.proofs.+array+entire+fields+record+run+value+wire.Lts-wire as wire-lts
 use Rattle.fit.proofs.boolean.Reads as boolean-reads
 use Rattle.fit.proofs.mark.Reads as mark-reads
 use Rattle.fit.proofs.open_value.Reads as open-value-reads
@@ -45,28 +53,38 @@ use Rattle.pass.proofs.again.Reads as again-reads
 use Rattle.typed.proofs.below.Reads as below-reads
 use Rattle.pass.proofs.block.Reads as block-reads
 use Rattle.pass.proofs.descent.descend.Reads as descend-reads
-use Rattle.pass.proofs.descent.step.Reads as step-reads
+use Rattle.pass.proofs.descent.step.Reads as descent-step-reads
+use Rattle.pass.proofs.start.begin.Reads as begin-reads
+use Rattle.pass.proofs.start.step.Reads as start-step-reads
 use Rattle.table.proofs.nodes.argument_at.Reads as argument-at-reads
+use Rattle.table.proofs.nodes.end_at.Reads as end-at-reads
+use Rattle.table.proofs.nodes.is_omittable.Reads as is-omittable-reads
 use Rattle.table.proofs.nodes.kind_at.Reads as kind-at-reads
 use Rattle.typed.proofs.may_be_absent.Reads as may-be-absent-reads
 use Rattle.typed.proofs.next_node.Reads as next-node-reads
-use Rattle.pass.proofs.+array+record+run+value+wire.{statement}
-use Rattle.pass.proofs.+array+record+run+value+wire.Tie.{close}
+use Rattle.pass.proofs.+array+entire+fields+record+run+value+wire.{statement}
+use Rattle.pass.proofs.+array+entire+fields+record+run+value+wire.Tie.{close}
 
 abbrev μ-array : Measures 5 array-kinds.ps ℕ
-μ-array κs a = 4 * (1025 - a .1 .1 .1 .1 .1 .1 .0)
+μ-array κs a = 8 * (1025 - a .1 .1 .1 .1 .1 .1 .0)
 
-abbrev μ-run : Measures 5 run-kinds.ps ℕ
-μ-run κs a = 4 * (1025 - a .1 .1 .0) + 3
+abbrev μ-entire : Measures 5 entire-kinds.ps ℕ
+μ-entire κs a = 8 * (1025 - a .1 .1 .1 .1 .1 .1 .1 .0) + 4
+
+abbrev μ-fields : Measures 5 fields-kinds.ps ℕ
+μ-fields κs a = 8 * (1025 - a .1 .1 .1 .1 .1 .1 .1 .0) + 3
 
 abbrev μ-record : Measures 5 record-kinds.ps ℕ
-μ-record κs a = 4 * (1025 - a .1 .1 .1 .1 .1 .1 .1 .0)
+μ-record κs a = 8 * (1025 - a .1 .1 .1 .1 .1 .1 .1 .0)
+
+abbrev μ-run : Measures 5 run-kinds.ps ℕ
+μ-run κs a = 8 * (1025 - a .1 .1 .0) + 5
 
 abbrev μ-value : Measures 5 value-kinds.ps ℕ
-μ-value κs a = 4 * (1025 - a .1 .1 .1 .1 .1 .1 .1 .0) + 2
+μ-value κs a = 8 * (1025 - a .1 .1 .1 .1 .1 .1 .1 .0) + 2
 
 abbrev μ-wire : Measures 5 wire-kinds.ps ℕ
-μ-wire κs a = 4 * (1025 - a .1 .1 .1 .1 .1 .1 .1 .0) + 1
+μ-wire κs a = 8 * (1025 - a .1 .1 .1 .1 .1 .1 .1 .0) + 1
 
 abbrev array-at : ℕ → In 5 array-kinds.ps
 array-at t = and 5 array-kinds.ps (is 5 array-kinds.ps μ-array t) array.Pre
@@ -74,17 +92,29 @@ array-at t = and 5 array-kinds.ps (is 5 array-kinds.ps μ-array t) array.Pre
 abbrev array-below : ℕ → In 5 array-kinds.ps
 array-below t = and 5 array-kinds.ps (falls 5 array-kinds.ps _<_ μ-array t) array.Pre
 
-abbrev run-at : ℕ → In 5 run-kinds.ps
-run-at t = and 5 run-kinds.ps (is 5 run-kinds.ps μ-run t) run.Pre
+abbrev entire-at : ℕ → In 5 entire-kinds.ps
+entire-at t = and 5 entire-kinds.ps (is 5 entire-kinds.ps μ-entire t) entire.Pre
 
-abbrev run-below : ℕ → In 5 run-kinds.ps
-run-below t = and 5 run-kinds.ps (falls 5 run-kinds.ps _<_ μ-run t) run.Pre
+abbrev entire-below : ℕ → In 5 entire-kinds.ps
+entire-below t = and 5 entire-kinds.ps (falls 5 entire-kinds.ps _<_ μ-entire t) entire.Pre
+
+abbrev fields-at : ℕ → In 5 fields-kinds.ps
+fields-at t = and 5 fields-kinds.ps (is 5 fields-kinds.ps μ-fields t) fields.Pre
+
+abbrev fields-below : ℕ → In 5 fields-kinds.ps
+fields-below t = and 5 fields-kinds.ps (falls 5 fields-kinds.ps _<_ μ-fields t) fields.Pre
 
 abbrev record-at : ℕ → In 5 record-kinds.ps
 record-at t = and 5 record-kinds.ps (is 5 record-kinds.ps μ-record t) record.Pre
 
 abbrev record-below : ℕ → In 5 record-kinds.ps
 record-below t = and 5 record-kinds.ps (falls 5 record-kinds.ps _<_ μ-record t) record.Pre
+
+abbrev run-at : ℕ → In 5 run-kinds.ps
+run-at t = and 5 run-kinds.ps (is 5 run-kinds.ps μ-run t) run.Pre
+
+abbrev run-below : ℕ → In 5 run-kinds.ps
+run-below t = and 5 run-kinds.ps (falls 5 run-kinds.ps _<_ μ-run t) run.Pre
 
 abbrev value-at : ℕ → In 5 value-kinds.ps
 value-at t = and 5 value-kinds.ps (is 5 value-kinds.ps μ-value t) value.Pre
@@ -108,7 +138,13 @@ abbrev record-uses : ℕ → record-lts.Claims
 record-uses t = (argument-at-reads.Asked, argument-at-reads.Learnt, record-reads.Asked, record-reads.Learnt, again-reads.Asked, again-reads.Learnt, run-below t, run.Post)
 
 abbrev run-uses : ℕ → run-lts.Claims
-run-uses t = (may-be-absent-reads.Asked, may-be-absent-reads.Learnt, next-node-reads.Asked, next-node-reads.Learnt, descend-reads.Asked, descend-reads.Learnt, step-reads.Asked, step-reads.Learnt, value-below t, value.Post, again-reads.Asked, again-reads.Learnt)
+run-uses t = (may-be-absent-reads.Asked, may-be-absent-reads.Learnt, next-node-reads.Asked, next-node-reads.Learnt, descend-reads.Asked, descend-reads.Learnt, descent-step-reads.Asked, descent-step-reads.Learnt, entire-below t, entire.Post, again-reads.Asked, again-reads.Learnt)
+
+abbrev fields-uses : ℕ → fields-lts.Claims
+fields-uses t = (value-below t, value.Post, again-reads.Asked, again-reads.Learnt, end-at-reads.Asked, end-at-reads.Learnt, is-omittable-reads.Asked, is-omittable-reads.Learnt)
+
+abbrev entire-uses : ℕ → entire-lts.Claims
+entire-uses t = (begin-reads.Asked, begin-reads.Learnt, start-step-reads.Asked, start-step-reads.Learnt, fields-below t, fields.Post)
 
 abbrev array-uses : ℕ → array-lts.Claims
 array-uses t = (word-at-reads.Asked, word-at-reads.Learnt, integer-of-reads.Asked, integer-of-reads.Learnt, mark-reads.Asked, mark-reads.Learnt, again-reads.Asked, again-reads.Learnt, run-below t, run.Post)
@@ -194,6 +230,170 @@ array-returns-3 t c =
     let a = c24 .args in
     array-then (a .how) (now (a .table)) (now (a .pool)) (now (a .rows)) (now (a .out)) (now (a .work)) (a .i) (a .core) (a .node) (c24 .pre .1 .0) (c24 .pre .1 .3) (told word (c18 .word-at .ensures .0) (c16 .count .given .1)) (subst (λ x. Small x) (c16 .count .given .1) (c18 .word-at .ensures .1)) (marks-as (toZ-ofZ w64 _ (record { sfits = c13 .integer-of .ok }) ∙ c13 .integer-of .ensures) (c12 .mark .ensures)) (c8 .r .given .1) (c4 .run .ensures .entries refl)
 
+entire-begin-requires : (t : ℕ) → entire-lts.Need-begin-requires (entire-uses t) (entire-at t) entire.Post
+entire-begin-requires t c κs =
+    let c6 = c .before .before .before .before .before .before in
+    let a = c6 .args in
+    (c6 .pre .1 .1, record { work = now (a .work); holds = c6 .pre .1 .0; fits = c6 .pre .1 .2 })
+
+entire-enum-known-s : (t : ℕ) → entire-lts.Need-enum-known-s (entire-uses t) (entire-at t) entire.Post
+entire-enum-known-s t c = search needs
+
+entire-enum-told : (t : ℕ) → entire-lts.Need-enum-told (entire-uses t) (entire-at t) entire.Post
+entire-enum-told t c = search needs
+
+entire-step-requires : (t : ℕ) → entire-lts.Need-step-requires (entire-uses t) (entire-at t) entire.Post
+entire-step-requires t c κs = search needs
+
+entire-same-length : (t : ℕ) → entire-lts.Need-same-length (entire-uses t) (entire-at t) entire.Post
+entire-same-length t c = search needs
+
+entire-returns : (t : ℕ) → entire-lts.Need-returns (entire-uses t) (entire-at t) entire.Post
+entire-returns t c =
+    let c1 = c .before in
+    let c5 = c1 .before .before .before .before in
+    let c12 = c5 .before .before .before .before .before .before .before in
+    let a = c12 .args in
+    ended (a .how) (now (a .table)) (now (a .pool)) (now (a .rows)) (now (a .out)) (now (a .work)) (a .i) (a .core) (a .node) (c12 .pre .1 .0) (c12 .pre .1 .2) _ (c5 .begin .ensures) (c1 .enum-told .given .1) (c .step .ensures)
+
+entire-fields-requires : (t : ℕ) → entire-lts.Need-fields-requires (entire-uses t) (entire-at t) entire.Post
+entire-fields-requires t c κs =
+    let c3 = c .before .before .before in
+    let c7 = c3 .before .before .before .before in
+    let c14 = c7 .before .before .before .before .before .before .before in
+    let a = c14 .args in
+    let y = begun (a .how) (now (a .table)) (now (a .pool)) (now (a .rows)) (now (a .out)) (now (a .work)) (a .i) (a .core) (a .node) (c14 .pre .1 .0) (c14 .pre .1 .2) _ (c7 .begin .ensures) (c3 .s .given .1) in
+    (omega (arith, c14 .pre .0, y .0), (y .1 .holds, c14 .pre .1 .1, y .1 .fits))
+
+entire-same-length-2 : (t : ℕ) → entire-lts.Need-same-length-2 (entire-uses t) (entire-at t) entire.Post
+entire-same-length-2 t c = search needs
+
+entire-same-length-3 : (t : ℕ) → entire-lts.Need-same-length-3 (entire-uses t) (entire-at t) entire.Post
+entire-same-length-3 t c = search needs
+
+entire-returns-2 : (t : ℕ) → entire-lts.Need-returns-2 (entire-uses t) (entire-at t) entire.Post
+entire-returns-2 t c =
+    let c4 = c .before .before .before .before in
+    let c8 = c4 .before .before .before .before in
+    let c12 = c8 .before .before .before .before in
+    let c19 = c12 .before .before .before .before .before .before .before in
+    let a = c19 .args in
+    begun (a .how) (now (a .table)) (now (a .pool)) (now (a .rows)) (now (a .out)) (now (a .work)) (a .i) (a .core) (a .node) (c19 .pre .1 .0) (c19 .pre .1 .2) _ (c12 .begin .ensures) (c8 .s .given .1) .1 .whole (c4 .fields .ensures)
+
+abbrev fields-Inv-loop : fields-lts.InvT-loop
+fields-Inv-loop table rows pool out₀ work₀ how omittable node count i core k₀ at₀ n₀ end₀ absent₀ out work k at n end absent = GroupAt how table pool rows out₀ work₀ omittable node count i core out work k at absent n end
+
+abbrev fields-μ-loop : fields-lts.MeasureT-loop
+fields-μ-loop table rows pool out₀ work₀ how omittable node count i core k₀ at₀ n₀ end₀ absent₀ out work k at n end absent = k
+
+fields-loop-holds : (t : ℕ) → fields-lts.Need-loop-holds (fields-uses t) (fields-at t) fields.Post fields-Inv-loop fields-μ-loop
+fields-loop-holds t c =
+    let c5 = c .before .before .before .before .before in
+    let a = c5 .args in
+    group-begin (a .how) (now (a .table)) (now (a .pool)) (now (a .rows)) (now (a .out)) (now (a .work)) (a .omittable) (a .node) (a .count) (a .i) (a .core) (c5 .pre .1 .0) (c5 .pre .1 .2)
+
+fields-value-requires : (t : ℕ) → fields-lts.Need-value-requires (fields-uses t) (fields-at t) fields.Post fields-Inv-loop fields-μ-loop
+fields-value-requires t c κs =
+    let c2 = c .before .before in
+    let c8 = c2 .before .before .before .before .before .before in
+    let a = c8 .args in
+    let x = c2 .loop in
+    let f = group-fits (a .how) (now (a .table)) (now (a .pool)) (now (a .rows)) (now (a .out)) (now (a .work)) (a .omittable) (a .node) (a .count) (a .i) (a .core) (x .out) (x .work) (x .k) (x .at) (x .absent) (x .n) (x .end) (x .inv) (c8 .pre .1 .1) (c8 .pre .1 .2) in
+    (omega (arith, c8 .pre .0, x .inv .onward), (x .inv .holds, c8 .pre .1 .1, f))
+
+fields-enum-known-r : (t : ℕ) → fields-lts.Need-enum-known-r (fields-uses t) (fields-at t) fields.Post fields-Inv-loop fields-μ-loop
+fields-enum-known-r t c = search needs
+
+fields-enum-told : (t : ℕ) → fields-lts.Need-enum-told (fields-uses t) (fields-at t) fields.Post fields-Inv-loop fields-μ-loop
+fields-enum-told t c = search needs
+
+fields-again-requires : (t : ℕ) → fields-lts.Need-again-requires (fields-uses t) (fields-at t) fields.Post fields-Inv-loop fields-μ-loop
+fields-again-requires t c κs = search needs
+
+fields-same-length : (t : ℕ) → fields-lts.Need-same-length (fields-uses t) (fields-at t) fields.Post fields-Inv-loop fields-μ-loop
+fields-same-length t c =
+    let c7 = c .before .before .before .before .before .before .before in
+    let c10 = c7 .before .before .before in
+    c7 .value .kept .1 .1 .1 .0 ∙ c10 .loop .inv .lent
+
+fields-same-length-2 : (t : ℕ) → fields-lts.Need-same-length-2 (fields-uses t) (fields-at t) fields.Post fields-Inv-loop fields-μ-loop
+fields-same-length-2 t c =
+    let c7 = c .before .before .before .before .before .before .before in
+    let c10 = c7 .before .before .before in
+    c7 .value .kept .1 .1 .1 .1 .0 ∙ c10 .loop .inv .worked
+
+fields-returns : (t : ℕ) → fields-lts.Need-returns (fields-uses t) (fields-at t) fields.Post fields-Inv-loop fields-μ-loop
+fields-returns t c =
+    let c1 = c .before in
+    let c7 = c1 .before .before .before .before .before .before in
+    let c10 = c7 .before .before .before in
+    let c16 = c10 .before .before .before .before .before .before in
+    let a = c16 .args in
+    let x = c10 .loop in
+    group-not (a .how) (now (a .table)) (now (a .pool)) (now (a .rows)) (now (a .out)) (now (a .work)) (a .omittable) (a .node) (a .count) (a .i) (a .core) (x .out) (x .work) (x .k) (x .at) (x .absent) (x .n) (x .end) (x .inv) (c16 .pre .1 .1) (c7 .value .ensures) (c1 .enum-told .given .1) (c .again .ensures)
+
+fields-sub-k : (t : ℕ) → fields-lts.Need-sub-k (fields-uses t) (fields-at t) fields.Post fields-Inv-loop fields-μ-loop
+fields-sub-k t c = omega (arith, c .before .before .before .before .before .before .before .before .before .before .loop .inv .some)
+
+fields-same-length-3 : (t : ℕ) → fields-lts.Need-same-length-3 (fields-uses t) (fields-at t) fields.Post fields-Inv-loop fields-μ-loop
+fields-same-length-3 t c =
+    let c8 = c .before .before .before .before .before .before .before .before in
+    let c11 = c8 .before .before .before in
+    c8 .value .kept .1 .1 .1 .0 ∙ c11 .loop .inv .lent
+
+fields-same-length-4 : (t : ℕ) → fields-lts.Need-same-length-4 (fields-uses t) (fields-at t) fields.Post fields-Inv-loop fields-μ-loop
+fields-same-length-4 t c =
+    let c8 = c .before .before .before .before .before .before .before .before in
+    let c11 = c8 .before .before .before in
+    c8 .value .kept .1 .1 .1 .1 .0 ∙ c11 .loop .inv .worked
+
+fields-returns-2 : (t : ℕ) → fields-lts.Need-returns-2 (fields-uses t) (fields-at t) fields.Post fields-Inv-loop fields-μ-loop
+fields-returns-2 t c =
+    let c2 = c .before .before in
+    let c8 = c2 .before .before .before .before .before .before in
+    let c11 = c8 .before .before .before in
+    let c17 = c11 .before .before .before .before .before .before in
+    let a = c17 .args in
+    let x = c11 .loop in
+    group-end (a .how) (now (a .table)) (now (a .pool)) (now (a .rows)) (now (a .out)) (now (a .work)) (a .omittable) (a .node) (a .count) (a .i) (a .core) (x .out) (x .work) (x .k) (x .at) (x .absent) (x .n) (x .end) (x .inv) (c17 .pre .1 .1) (c8 .value .ensures) (c .if1 .taken) (c2 .r .given .1)
+
+fields-end-at-requires : (t : ℕ) → fields-lts.Need-end-at-requires (fields-uses t) (fields-at t) fields.Post fields-Inv-loop fields-μ-loop
+fields-end-at-requires t c κs =
+    let c9 = c .before .before .before .before .before .before .before .before .before in
+    let c12 = c9 .before .before .before in
+    let c18 = c12 .before .before .before .before .before .before in
+    let a = c18 .args in
+    let x = c12 .loop in
+    let f = group-fits (a .how) (now (a .table)) (now (a .pool)) (now (a .rows)) (now (a .out)) (now (a .work)) (a .omittable) (a .node) (a .count) (a .i) (a .core) (x .out) (x .work) (x .k) (x .at) (x .absent) (x .n) (x .end) (x .inv) (c18 .pre .1 .1) (c18 .pre .1 .2) in
+    omega (arith, node-inside _ _ _ _ f (c18 .pre .1 .1) .0, x .inv .holds .ready .good .whole, c9 .value .kept .1 .1 .1 .1 .0)
+
+fields-is-omittable-requires : (t : ℕ) → fields-lts.Need-is-omittable-requires (fields-uses t) (fields-at t) fields.Post fields-Inv-loop fields-μ-loop
+fields-is-omittable-requires t c κs =
+    let c2 = c .before .before in
+    let c4 = c2 .before .before in
+    let c10 = c4 .before .before .before .before .before .before in
+    let c13 = c10 .before .before .before in
+    let c19 = c13 .before .before .before .before .before .before in
+    let a = c19 .args in
+    let x = c13 .loop in
+    let y = group-again (a .how) (now (a .table)) (now (a .pool)) (now (a .rows)) (now (a .out)) (now (a .work)) (a .omittable) (a .node) (a .count) (a .i) (a .core) (x .out) (x .work) (x .k) (x .at) (x .absent) (x .n) (x .end) (x .inv) (c19 .pre .1 .1) (c10 .value .ensures) (c19 .pre .1 .2) (c2 .if1 .left) (c4 .r .given .1) (c .end-at .ensures .0) refl (c10 .value .kept .1 .1 .1 .0) (c10 .value .kept .1 .1 .1 .1 .0) in
+    node-inside _ _ _ _ (group-fits (a .how) (now (a .table)) (now (a .pool)) (now (a .rows)) (now (a .out)) (now (a .work)) (a .omittable) (a .node) (a .count) (a .i) (a .core) _ _ _ _ _ _ _ y (c19 .pre .1 .1) (c19 .pre .1 .2)) (c19 .pre .1 .1) .1
+
+fields-loop-less : (t : ℕ) → fields-lts.Need-loop-less (fields-uses t) (fields-at t) fields.Post fields-Inv-loop fields-μ-loop
+fields-loop-less t c = omega (arith, c .before .before .before .before .before .before .before .before .before .before .before .before .before .before .loop .inv .some)
+
+fields-loop-again : (t : ℕ) → fields-lts.Need-loop-again (fields-uses t) (fields-at t) fields.Post fields-Inv-loop fields-μ-loop
+fields-loop-again t c =
+    let c1 = c .before in
+    let c3 = c1 .before .before in
+    let c5 = c3 .before .before in
+    let c11 = c5 .before .before .before .before .before .before in
+    let c14 = c11 .before .before .before in
+    let c20 = c14 .before .before .before .before .before .before in
+    let a = c20 .args in
+    let x = c14 .loop in
+    group-again (a .how) (now (a .table)) (now (a .pool)) (now (a .rows)) (now (a .out)) (now (a .work)) (a .omittable) (a .node) (a .count) (a .i) (a .core) (x .out) (x .work) (x .k) (x .at) (x .absent) (x .n) (x .end) (x .inv) (c20 .pre .1 .1) (c11 .value .ensures) (c20 .pre .1 .2) (c3 .if1 .left) (c5 .r .given .1) (c1 .end-at .ensures .0) (c .is-omittable .ensures) (c11 .value .kept .1 .1 .1 .0) (c11 .value .kept .1 .1 .1 .1 .0)
+
 abbrev run-Inv-loop : run-lts.InvT-loop
 run-Inv-loop i core node count repeated table rows pool out₀ work₀ how k₀ at₀ n₀ end₀ out work k at n end = RunAt how table pool rows out₀ work₀ node repeated count i core out work k at n end
 
@@ -265,8 +465,8 @@ run-returns t c =
     let y = stopped (a .how) (now (a .table)) (now (a .pool)) (now (a .rows)) (x .out) (x .work) (x .n) (x .end) (x .at) (x .inv .holds) f _ (c5 .descend .ensures) (c1 .enum-told .given .1) in
     run-not (a .how) (now (a .table)) (now (a .pool)) (now (a .rows)) (now (a .out)) (now (a .work)) (a .node) (a .repeated) (a .count) (a .i) (a .core) (x .out) (x .work) (x .k) (x .at) (x .n) (x .end) (x .inv) (c17 .pre .1 .1) (c10 .loop-test .taken) (c9 .may-be-absent .ensures) (y .3) (y .2) (c .step .ensures ∙ ap stepOf (c1 .enum-told .given .1))
 
-run-value-requires : (t : ℕ) → run-lts.Need-value-requires (run-uses t) (run-at t) run.Post run-Inv-loop run-μ-loop
-run-value-requires t c κs =
+run-entire-requires : (t : ℕ) → run-lts.Need-entire-requires (run-uses t) (run-at t) run.Post run-Inv-loop run-μ-loop
+run-entire-requires t c κs =
     let c3 = c .before .before .before in
     let c7 = c3 .before .before .before .before in
     let c12 = c7 .before .before .before .before .before in
@@ -292,13 +492,13 @@ run-same-length-3 t c =
     let c7 = c .before .before .before .before .before .before .before in
     let c15 = c7 .before .before .before .before .before .before .before .before in
     let c21 = c15 .before .before .before .before .before .before in
-    c7 .value .kept .1 .1 .1 .0 ∙ c15 .descend .kept .1 .1 .1 .0 ∙ c21 .loop .inv .lent
+    c7 .entire .kept .1 .1 .1 .0 ∙ c15 .descend .kept .1 .1 .1 .0 ∙ c21 .loop .inv .lent
 
 run-same-length-4 : (t : ℕ) → run-lts.Need-same-length-4 (run-uses t) (run-at t) run.Post run-Inv-loop run-μ-loop
 run-same-length-4 t c =
     let c7 = c .before .before .before .before .before .before .before in
     let c21 = c7 .before .before .before .before .before .before .before .before .before .before .before .before .before .before in
-    c7 .value .kept .1 .1 .1 .1 .0 ∙ c21 .loop .inv .worked
+    c7 .entire .kept .1 .1 .1 .1 .0 ∙ c21 .loop .inv .worked
 
 run-returns-2 : (t : ℕ) → run-lts.Need-returns-2 (run-uses t) (run-at t) run.Post run-Inv-loop run-μ-loop
 run-returns-2 t c =
@@ -314,7 +514,7 @@ run-returns-2 t c =
     let x = c21 .loop in
     let f = run-fits (a .how) (now (a .table)) (now (a .pool)) (now (a .rows)) (now (a .out)) (now (a .work)) (a .node) (a .repeated) (a .count) (a .i) (a .core) (x .out) (x .work) (x .k) (x .at) (x .n) (x .end) (x .inv) (c27 .pre .1 .1) (c27 .pre .1 .2) (c20 .loop-test .taken) in
     let y = led-on (a .how) (now (a .table)) (now (a .pool)) (now (a .rows)) (x .out) (x .work) (x .n) (x .end) (x .at) (x .inv .holds) f _ (c15 .descend .ensures) (c11 .d .given .1) in
-    run-not (a .how) (now (a .table)) (now (a .pool)) (now (a .rows)) (now (a .out)) (now (a .work)) (a .node) (a .repeated) (a .count) (a .i) (a .core) (x .out) (x .work) (x .k) (x .at) (x .n) (x .end) (x .inv) (c27 .pre .1 .1) (c20 .loop-test .taken) (c19 .may-be-absent .ensures) (y .1 .whole (c7 .value .ensures)) (c1 .enum-told2 .given .1) (c .again .ensures)
+    run-not (a .how) (now (a .table)) (now (a .pool)) (now (a .rows)) (now (a .out)) (now (a .work)) (a .node) (a .repeated) (a .count) (a .i) (a .core) (x .out) (x .work) (x .k) (x .at) (x .n) (x .end) (x .inv) (c27 .pre .1 .1) (c20 .loop-test .taken) (c19 .may-be-absent .ensures) (y .1 .whole (c7 .entire .ensures)) (c1 .enum-told2 .given .1) (c .again .ensures)
 
 run-sub-k : (t : ℕ) → run-lts.Need-sub-k (run-uses t) (run-at t) run.Post run-Inv-loop run-μ-loop
 run-sub-k t c = search needs
@@ -337,7 +537,7 @@ run-loop-again t c =
     let x = c21 .loop in
     let f = run-fits (a .how) (now (a .table)) (now (a .pool)) (now (a .rows)) (now (a .out)) (now (a .work)) (a .node) (a .repeated) (a .count) (a .i) (a .core) (x .out) (x .work) (x .k) (x .at) (x .n) (x .end) (x .inv) (c27 .pre .1 .1) (c27 .pre .1 .2) (c20 .loop-test .taken) in
     let y = led-on (a .how) (now (a .table)) (now (a .pool)) (now (a .rows)) (x .out) (x .work) (x .n) (x .end) (x .at) (x .inv .holds) f _ (c15 .descend .ensures) (c11 .d .given .1) in
-    run-again (a .how) (now (a .table)) (now (a .pool)) (now (a .rows)) (now (a .out)) (now (a .work)) (a .node) (a .repeated) (a .count) (a .i) (a .core) (x .out) (x .work) (x .k) (x .at) (x .n) (x .end) (x .inv) (c27 .pre .1 .1) (c20 .loop-test .taken) (c19 .may-be-absent .ensures) (y .1 .whole (c7 .value .ensures)) (c27 .pre .1 .2) (c17 .next-node .ensures) (c7 .value .kept .1 .1 .1 .0 ∙ c15 .descend .kept .1 .1 .1 .0) (c7 .value .kept .1 .1 .1 .1 .0) (c1 .r .given .1)
+    run-again (a .how) (now (a .table)) (now (a .pool)) (now (a .rows)) (now (a .out)) (now (a .work)) (a .node) (a .repeated) (a .count) (a .i) (a .core) (x .out) (x .work) (x .k) (x .at) (x .n) (x .end) (x .inv) (c27 .pre .1 .1) (c20 .loop-test .taken) (c19 .may-be-absent .ensures) (y .1 .whole (c7 .entire .ensures)) (c27 .pre .1 .2) (c17 .next-node .ensures) (c7 .entire .kept .1 .1 .1 .0 ∙ c15 .descend .kept .1 .1 .1 .0) (c7 .entire .kept .1 .1 .1 .1 .0) (c1 .r .given .1)
 
 run-same-length-5 : (t : ℕ) → run-lts.Need-same-length-5 (run-uses t) (run-at t) run.Post run-Inv-loop run-μ-loop
 run-same-length-5 t c = c .before .loop .inv .lent
@@ -563,9 +763,9 @@ wire-same-length-7 t c = search needs
 wire-returns-4 : (t : ℕ) → wire-lts.Need-returns-4 (wire-uses t) (wire-at t) wire.Post
 wire-returns-4 t c = c .before .before .before .before .block .ensures
 
-pub +array+record+run+value+wire-spec : {M : Type 1} → statement M
-+array+record+run+value+wire-spec =
-    close μ-array μ-record μ-run μ-value μ-wire (λ t. array-lts.spec (array-uses t) (array-at t) array.Post
+pub +array+entire+fields+record+run+value+wire-spec : {M : Type 1} → statement M
++array+entire+fields+record+run+value+wire-spec =
+    close μ-array μ-entire μ-fields μ-record μ-run μ-value μ-wire (λ t. array-lts.spec (array-uses t) (array-at t) array.Post
     (array-word-at-requires t)
     (array-enum-known-count t)
     (array-enum-told t)
@@ -582,6 +782,36 @@ pub +array+record+run+value+wire-spec : {M : Type 1} → statement M
     (array-same-length-2 t)
     (array-same-length-3 t)
     (array-returns-3 t))
+    (λ t. entire-lts.spec (entire-uses t) (entire-at t) entire.Post
+    (entire-begin-requires t)
+    (entire-enum-known-s t)
+    (entire-enum-told t)
+    (entire-step-requires t)
+    (entire-same-length t)
+    (entire-returns t)
+    (entire-fields-requires t)
+    (entire-same-length-2 t)
+    (entire-same-length-3 t)
+    (entire-returns-2 t))
+    (λ t. fields-lts.spec (fields-uses t) (fields-at t) fields.Post
+    fields-Inv-loop
+    fields-μ-loop
+    (fields-loop-holds t)
+    (fields-value-requires t)
+    (fields-enum-known-r t)
+    (fields-enum-told t)
+    (fields-again-requires t)
+    (fields-same-length t)
+    (fields-same-length-2 t)
+    (fields-returns t)
+    (fields-sub-k t)
+    (fields-same-length-3 t)
+    (fields-same-length-4 t)
+    (fields-returns-2 t)
+    (fields-end-at-requires t)
+    (fields-is-omittable-requires t)
+    (fields-loop-less t)
+    (fields-loop-again t))
     (λ t. record-lts.spec (record-uses t) (record-at t) record.Post
     (record-argument-at-requires t)
     (record-record-requires t)
@@ -611,7 +841,7 @@ pub +array+record+run+value+wire-spec : {M : Type 1} → statement M
     (run-same-length t)
     (run-same-length-2 t)
     (run-returns t)
-    (run-value-requires t)
+    (run-entire-requires t)
     (run-enum-known-r t)
     (run-enum-told-2 t)
     (run-again-requires t)
