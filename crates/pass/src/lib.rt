@@ -94,7 +94,7 @@ fn value(
     }
 }
 
-// By the kind of the value's own node.
+// By the kind of the value's own node, the commonest first.
 fn wire(
     table: &[u8],
     rows: &[u64],
@@ -111,16 +111,16 @@ fn wire(
     ensures { λ r. ⌜ WritesWire how (now (table .entry)) (now (pool .entry)) (now (rows .entry)) (now (out .entry)) (now (work .entry)) core (now (out .exit)) (now (work .exit)) r i node labelled ⌝ }
 {
     let kind = nodes::kind_at(table, node);
+    if kind == nodes::BLOCK {
+        return block(table, rows, pool, out, work, how, labelled, node, i, core);
+    }
     if kind == nodes::BOOLEAN {
         return fit::boolean(rows, pool, out, how.put, i, core);
     }
     if kind == nodes::RECORD {
         return record(table, rows, pool, out, work, how, labelled, node, i, core);
     }
-    if kind == nodes::ARRAY {
-        return array(table, rows, pool, out, work, how, node, i, core);
-    }
-    block(table, rows, pool, out, work, how, labelled, node, i, core)
+    array(table, rows, pool, out, work, how, node, i, core)
 }
 
 fn record(

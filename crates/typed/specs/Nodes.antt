@@ -77,6 +77,17 @@ module _ (table work : List ℕ) where
           let e = depth-some (f .type) in
           (omega (arith, f .deep), omega (arith, whole .most), omega (arith, whole .whole))
 
+      -- what is left is an ARRAY
+      pub array-left : (nodeAt table i .kind ≡ BLOCK → ⊥) → (nodeAt table i .kind ≡ BOOLEAN → ⊥) → (nodeAt table i .kind ≡ RECORD → ⊥) → nodeAt table i .kind ≡ ARRAY
+      unfolding HasWire
+      array-left k b r = go (f .type) (f .is)
+        where
+          go : (v : Wire) → IsWire table work i v → nodeAt table i .kind ≡ ARRAY
+          go boolean h = absurd (b (h .kind))
+          go (array w) h = h .0 .kind
+          go (fields ws) h = absurd (r (h .0 .kind))
+          go (block key) h = absurd (k (h .top .kind))
+
       -- what is left is a BLOCK, whose key and child are inside too
       pub block-inside : (nodeAt table i .kind ≡ BOOLEAN → ⊥) → (nodeAt table i .kind ≡ RECORD → ⊥) → (nodeAt table i .kind ≡ ARRAY → ⊥)
           → (nodeAt table i .kind ≡ BLOCK) × (nodeAt table i .argument < 32) × (15 + 4 * i ≤ length table)

@@ -2,7 +2,7 @@
 use borrow.Author.Needs.{needs}
 use native.Mathlib.Omega.{arith}
 use denote.Ref.{now}
-use mathlib.Core.Path.{refl, sym, ap, _∙_, subst}
+use mathlib.Core.Path.{_≡_, refl, sym, ap, _∙_, subst}
 use Rattle.pass.proofs.Values.{begins, row-holds, mark-holds, marks-as, opened-gone, opened-here, own-fits, own-onward, fields-fit, entry-fits, value-gone, value-here, wire-boolean, wire-array, record-not, record-then, array-none, array-refused, array-then}
 use Rattle.pass.proofs.Runs.{RunAt, run-begin, run-fits, run-not, run-again, run-end, no-fields}
 use Rattle.pass.specs.Descent.{stepOf}
@@ -15,7 +15,7 @@ use mir.Syntax.{w64}
 use mir.ValLaws.{toZ-ofZ}
 use Rattle.format.specs.Table.{NULLABLE}
 use Rattle.format.specs.Row.{arrayRow}
-use Rattle.typed.specs.Nodes.{node-inside, wire-inside, block-inside}
+use Rattle.typed.specs.Nodes.{node-inside, wire-inside, array-left, block-inside}
 use Rattle.fit.specs.Judged.{word, Small}
 use Rattle.fit.specs.Fits.{value-there}
 use Rattle.fit.proofs.Facts.{told}
@@ -129,7 +129,7 @@ abbrev wire-below : ℕ → In 5 wire-kinds.ps
 wire-below t = and 5 wire-kinds.ps (falls 5 wire-kinds.ps _<_ μ-wire t) wire.Pre
 
 abbrev wire-uses : ℕ → wire-lts.Claims
-wire-uses t = (kind-at-reads.Asked, kind-at-reads.Learnt, boolean-reads.Asked, boolean-reads.Learnt, record-below t, record.Post, array-below t, array.Post, block-reads.Asked, block-reads.Learnt)
+wire-uses t = (kind-at-reads.Asked, kind-at-reads.Learnt, block-reads.Asked, block-reads.Learnt, boolean-reads.Asked, boolean-reads.Learnt, record-below t, record.Post, array-below t, array.Post)
 
 abbrev value-uses : ℕ → value-lts.Claims
 value-uses t = (kind-at-reads.Asked, kind-at-reads.Learnt, open-value-reads.Asked, open-value-reads.Learnt, below-reads.Asked, below-reads.Learnt, wire-below t, wire.Post)
@@ -688,44 +688,45 @@ wire-kind-at-requires t c κs =
     let a = c5 .args in
     wire-inside (now (a .table)) (now (a .work)) (a .node) 32 (c5 .pre .1 .2) (c5 .pre .1 .1) .2
 
-wire-boolean-requires : (t : ℕ) → wire-lts.Need-boolean-requires (wire-uses t) (wire-at t) wire.Post
-wire-boolean-requires t c κs = begins (c .before .before .before .before .before .before .before .before .pre .1 .0)
+wire-block-requires : (t : ℕ) → wire-lts.Need-block-requires (wire-uses t) (wire-at t) wire.Post
+wire-block-requires t c κs =
+    let c2 = c .before .before in
+    let c3 = c2 .before in
+    let c9 = c3 .before .before .before .before .before .before in
+    let a = c9 .args in
+    let k = sym (c3 .kind-at .ensures) ∙ c2 .if1 .taken in
+    let b = block-inside (now (a .table)) (now (a .work)) (a .node) 32 (c9 .pre .1 .2) (c9 .pre .1 .1) (λ q. let z : _≡_ {A = ℕ} 9 2 = sym k ∙ q in omega arith) (λ q. let z : _≡_ {A = ℕ} 9 7 = sym k ∙ q in omega arith) (λ q. let z : _≡_ {A = ℕ} 9 8 = sym k ∙ q in omega arith) in
+    ((c9 .pre .1 .0), b .0, b .1, b .2)
 
 wire-same-length : (t : ℕ) → wire-lts.Need-same-length (wire-uses t) (wire-at t) wire.Post
 wire-same-length t c = search needs
 
-wire-returns : (t : ℕ) → wire-lts.Need-returns (wire-uses t) (wire-at t) wire.Post
-wire-returns t c =
-    let c2 = c .before .before in
-    let c4 = c2 .before .before in
-    let c5 = c4 .before in
-    let c11 = c5 .before .before .before .before .before .before in
-    let a = c11 .args in
-    wire-boolean (a .how) (now (a .table)) (now (a .pool)) (now (a .rows)) (now (a .out)) (now (a .work)) (a .i) (a .core) (a .node) (c11 .pre .1 .0) (sym (c5 .kind-at .ensures) ∙ c4 .if1 .taken) (c2 .boolean .ensures)
-
-wire-record-requires : (t : ℕ) → wire-lts.Need-record-requires (wire-uses t) (wire-at t) wire.Post
-wire-record-requires t c κs =
-    let c2 = c .before .before in
-    let c4 = c2 .before .before in
-    let c10 = c4 .before .before .before .before .before .before in
-    let a = c10 .args in
-    (omega (arith, c10 .pre .0), ((c10 .pre .1 .0), (c10 .pre .1 .1), (c10 .pre .1 .2), (sym (c4 .kind-at .ensures) ∙ c2 .if2 .taken)))
-
 wire-same-length-2 : (t : ℕ) → wire-lts.Need-same-length-2 (wire-uses t) (wire-at t) wire.Post
 wire-same-length-2 t c = search needs
+
+wire-returns : (t : ℕ) → wire-lts.Need-returns (wire-uses t) (wire-at t) wire.Post
+wire-returns t c = c .before .before .before .before .block .ensures
+
+wire-boolean-requires : (t : ℕ) → wire-lts.Need-boolean-requires (wire-uses t) (wire-at t) wire.Post
+wire-boolean-requires t c κs = begins (c .before .before .before .before .before .before .before .before .before .pre .1 .0)
 
 wire-same-length-3 : (t : ℕ) → wire-lts.Need-same-length-3 (wire-uses t) (wire-at t) wire.Post
 wire-same-length-3 t c = search needs
 
 wire-returns-2 : (t : ℕ) → wire-lts.Need-returns-2 (wire-uses t) (wire-at t) wire.Post
-wire-returns-2 t c = c .before .before .before .before .«record» .ensures
+wire-returns-2 t c =
+    let c2 = c .before .before in
+    let c4 = c2 .before .before in
+    let c6 = c4 .before .before in
+    let c12 = c6 .before .before .before .before .before .before in
+    let a = c12 .args in
+    wire-boolean (a .how) (now (a .table)) (now (a .pool)) (now (a .rows)) (now (a .out)) (now (a .work)) (a .i) (a .core) (a .node) (c12 .pre .1 .0) (sym (c6 .kind-at .ensures) ∙ c4 .if2 .taken) (c2 .boolean .ensures)
 
-wire-array-requires : (t : ℕ) → wire-lts.Need-array-requires (wire-uses t) (wire-at t) wire.Post
-wire-array-requires t c κs =
+wire-record-requires : (t : ℕ) → wire-lts.Need-record-requires (wire-uses t) (wire-at t) wire.Post
+wire-record-requires t c κs =
     let c2 = c .before .before in
     let c5 = c2 .before .before .before in
     let c11 = c5 .before .before .before .before .before .before in
-    let a = c11 .args in
     (omega (arith, c11 .pre .0), ((c11 .pre .1 .0), (c11 .pre .1 .1), (c11 .pre .1 .2), (sym (c5 .kind-at .ensures) ∙ c2 .if3 .taken)))
 
 wire-same-length-4 : (t : ℕ) → wire-lts.Need-same-length-4 (wire-uses t) (wire-at t) wire.Post
@@ -735,24 +736,17 @@ wire-same-length-5 : (t : ℕ) → wire-lts.Need-same-length-5 (wire-uses t) (wi
 wire-same-length-5 t c = search needs
 
 wire-returns-3 : (t : ℕ) → wire-lts.Need-returns-3 (wire-uses t) (wire-at t) wire.Post
-wire-returns-3 t c =
-    let c4 = c .before .before .before .before in
-    let c7 = c4 .before .before .before in
-    let c10 = c7 .before .before .before in
-    let c16 = c10 .before .before .before .before .before .before in
-    let a = c16 .args in
-    wire-array (a .how) (now (a .table)) (now (a .pool)) (now (a .rows)) (now (a .out)) (now (a .work)) (a .i) (a .core) (a .node) (c16 .pre .1 .0) (sym (c10 .kind-at .ensures) ∙ c7 .if3 .taken) (c4 .array .ensures)
+wire-returns-3 t c = c .before .before .before .before .«record» .ensures
 
-wire-block-requires : (t : ℕ) → wire-lts.Need-block-requires (wire-uses t) (wire-at t) wire.Post
-wire-block-requires t c κs =
+wire-array-requires : (t : ℕ) → wire-lts.Need-array-requires (wire-uses t) (wire-at t) wire.Post
+wire-array-requires t c κs =
     let c2 = c .before .before in
     let c3 = c2 .before in
     let c4 = c3 .before in
     let c5 = c4 .before in
     let c11 = c5 .before .before .before .before .before .before in
     let a = c11 .args in
-    let b = block-inside (now (a .table)) (now (a .work)) (a .node) 32 (c11 .pre .1 .2) (c11 .pre .1 .1) (λ q. c4 .if1 .left (c5 .kind-at .ensures ∙ q)) (λ q. c3 .if2 .left (c5 .kind-at .ensures ∙ q)) (λ q. c2 .if3 .left (c5 .kind-at .ensures ∙ q)) in
-    ((c11 .pre .1 .0), b .0, b .1, b .2)
+    (omega (arith, c11 .pre .0), ((c11 .pre .1 .0), (c11 .pre .1 .1), (c11 .pre .1 .2), array-left (now (a .table)) (now (a .work)) (a .node) 32 (c11 .pre .1 .2) (c11 .pre .1 .1) (λ q. c4 .if1 .left (c5 .kind-at .ensures ∙ q)) (λ q. c3 .if2 .left (c5 .kind-at .ensures ∙ q)) (λ q. c2 .if3 .left (c5 .kind-at .ensures ∙ q))))
 
 wire-same-length-6 : (t : ℕ) → wire-lts.Need-same-length-6 (wire-uses t) (wire-at t) wire.Post
 wire-same-length-6 t c = search needs
@@ -761,7 +755,15 @@ wire-same-length-7 : (t : ℕ) → wire-lts.Need-same-length-7 (wire-uses t) (wi
 wire-same-length-7 t c = search needs
 
 wire-returns-4 : (t : ℕ) → wire-lts.Need-returns-4 (wire-uses t) (wire-at t) wire.Post
-wire-returns-4 t c = c .before .before .before .before .block .ensures
+wire-returns-4 t c =
+    let c4 = c .before .before .before .before in
+    let c7 = c4 .before .before .before in
+    let c8 = c7 .before in
+    let c9 = c8 .before in
+    let c10 = c9 .before in
+    let c16 = c10 .before .before .before .before .before .before in
+    let a = c16 .args in
+    wire-array (a .how) (now (a .table)) (now (a .pool)) (now (a .rows)) (now (a .out)) (now (a .work)) (a .i) (a .core) (a .node) (c16 .pre .1 .0) (array-left (now (a .table)) (now (a .work)) (a .node) 32 (c16 .pre .1 .2) (c16 .pre .1 .1) (λ q. c9 .if1 .left (c10 .kind-at .ensures ∙ q)) (λ q. c8 .if2 .left (c10 .kind-at .ensures ∙ q)) (λ q. c7 .if3 .left (c10 .kind-at .ensures ∙ q))) (c4 .array .ensures)
 
 pub +array+entire+fields+record+run+value+wire-spec : {M : Type 1} → statement M
 +array+entire+fields+record+run+value+wire-spec =
@@ -868,18 +870,18 @@ pub +array+entire+fields+record+run+value+wire-spec : {M : Type 1} → statement
     (value-returns-2 t))
     λ t. wire-lts.spec (wire-uses t) (wire-at t) wire.Post
     (wire-kind-at-requires t)
-    (wire-boolean-requires t)
+    (wire-block-requires t)
     (wire-same-length t)
-    (wire-returns t)
-    (wire-record-requires t)
     (wire-same-length-2 t)
+    (wire-returns t)
+    (wire-boolean-requires t)
     (wire-same-length-3 t)
     (wire-returns-2 t)
-    (wire-array-requires t)
+    (wire-record-requires t)
     (wire-same-length-4 t)
     (wire-same-length-5 t)
     (wire-returns-3 t)
-    (wire-block-requires t)
+    (wire-array-requires t)
     (wire-same-length-6 t)
     (wire-same-length-7 t)
     (wire-returns-4 t)
