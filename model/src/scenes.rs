@@ -50,6 +50,7 @@ pub fn pairs() -> Vec<[Scene; 2]> {
         [4_095, 8_191].map(empty_records),
         [2_047, 4_095].map(truths),
         [125, 250].map(deep),
+        [11, 12].map(twos),
     ]
 }
 
@@ -126,6 +127,18 @@ fn deep(entries: usize) -> Scene {
     let pool = b"deepdeepdeepdeep".to_vec();
     let name = format!("{entries} entries, 32 deep");
     Scene::new(&name, &nodes, list, pool)
+}
+
+/// Arrays of two entries in one another, and truths at the bottom: half of the rows are arrays.
+fn twos(levels: usize) -> Scene {
+    let mut nodes = vec![Node::new(table::ARRAY, 0, 0); levels];
+    nodes.push(Node::new(table::BOOLEAN, 0, 0));
+    let mut list = [rows::TRUE, 0, 0].to_vec();
+    for _ in 0..levels {
+        list = [&[rows::ARRAY, 2, 0], &list[..], &list[..]].concat();
+    }
+    let name = format!("arrays of two, {levels} deep");
+    Scene::new(&name, &nodes, list, Vec::new())
 }
 
 /// Rows that no message holds: long places in a pool of one letter with another at 60,000, so that two of them differ
