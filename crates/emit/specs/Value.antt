@@ -1,4 +1,5 @@
 -- A value in three steps: where its first byte goes, its bytes, and the core or the key's slot moved on behind them.
+use mathlib.Core.Path.{_≡_}
 use mathlib.Core.Bool.{Bool, true, false, not}
 use mathlib.Core.List.{List}
 use mathlib.Core.Option.{Option, none, some}
@@ -10,7 +11,7 @@ use Rattle.store.specs.Store.{Store, lookup, opened, advanced}
 use Rattle.emit.specs.declared.Step.{Step}
 use Rattle.emit.specs.declared.Step.the-variants.{Done, Refused}
 use Rattle.plan.specs.Plan.{emitFront}
-use Rattle.emit.specs.State.{Emits}
+use Rattle.emit.specs.State.{slotsOf, Emits}
 
 -- while writing, a key that has no slot has no block either
 unfoldable pub slotPlace : Bool → Option ℕ → Answer ℕ
@@ -22,6 +23,11 @@ slotPlace put none = do
 unfoldable pub placeOf : Bool → Bool → ℕ → ℕ → List (ℕ × ℕ) → Answer ℕ
 placeOf put true k core slots = ok core
 placeOf put false k core slots = slotPlace put (lookup k slots)
+
+-- the place was found
+pub record Placed (put inline : Bool) (k core : ℕ) (w : List ℕ) : Type 0 where
+  pub at : ℕ
+  pub found : placeOf put inline k core (slotsOf w) ≡ ok at
 
 -- the slot of a key, which gets one now if it has none
 unfoldable pub slotTo : ℕ → ℕ → Option Reading → Store → Store

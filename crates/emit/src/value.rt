@@ -9,7 +9,7 @@ ghost use Rattle.format.specs.Write.{littleEndianBytes};
 ghost use Rattle.store.specs.Words.{Good, Changes};
 ghost use Rattle.plan.specs.Plan.{emitBytes};
 ghost use Rattle.emit.specs.State.{slotsOf, Within, stepOf, Emits};
-ghost use Rattle.emit.specs.Value.{placeOf, movedTo};
+ghost use Rattle.emit.specs.Value.{placeOf, movedTo, Placed};
 use super::Step;
 use super::bytes;
 use store::Slot;
@@ -32,14 +32,18 @@ fn place(work: &[u32], put: bool, inline: bool, core: usize, key: usize) -> Step
     Step::Done(0)
 }
 
-// The core, or the key's slot, moved on to `at`; returns how far the core goes.
-fn move_to(work: &mut [u32], inline: bool, core: usize, key: usize, at: usize) -> usize
-    requires { ⌜ (Good (now work)) × (key < 32) × (at < 2 ^ 32) ⌝ }
+// The core, or the key's slot, moved on to `at`; returns how far the core goes. While bytes are put, a key whose place was found has a slot.
+fn move_to(work: &mut [u32], put: bool, inline: bool, core: usize, key: usize, at: usize) -> usize
+    requires { ⌜ (Good (now work)) × (key < 32) × (at < 2 ^ 32) × (Placed put inline key core (now work)) ⌝ }
     ensures { λ r. ⌜ r ≡ cond inline at core ⌝ }
     ensures { λ _. ⌜ Changes (now (work .entry)) (now (work .exit)) (movedTo inline key at) ⌝ }
 {
     if inline {
         return at;
+    }
+    if put {
+        store::advance(work, key, at);
+        return core;
     }
     let slot = store::find(work, key);
     if let Slot::Untouched = slot {
@@ -74,7 +78,7 @@ pub fn part(
     let Step::Done(end) = step else {
         return step;
     };
-    Step::Done(move_to(work, inline, core, key, end))
+    Step::Done(move_to(work, put, inline, core, key, end))
 }
 
 // The integer whose word is a, as a VARINT.
@@ -99,7 +103,7 @@ pub fn number(
     let Step::Done(end) = step else {
         return step;
     };
-    Step::Done(move_to(work, inline, core, key, end))
+    Step::Done(move_to(work, put, inline, core, key, end))
 }
 
 // The eight bytes of the word a.
@@ -124,5 +128,5 @@ pub fn word(
     let Step::Done(end) = step else {
         return step;
     };
-    Step::Done(move_to(work, inline, core, key, end))
+    Step::Done(move_to(work, put, inline, core, key, end))
 }

@@ -16,7 +16,7 @@ use Rattle.format.specs.Label.{label, integer}
 use Rattle.format.specs.Modes.{inlineEverything}
 use Rattle.format.specs.Utf8.{isText}
 use Rattle.format.specs.Table.{varint, float64, fixed}
-use Rattle.format.specs.Row.{Place, Text, bytesAt, rowCount, integerRow, floatRow, fixedRow, recordRow}
+use Rattle.format.specs.Row.{Place, Text, isPlace, bytesAt, rowCount, integerRow, floatRow, fixedRow, recordRow}
 use Rattle.format.specs.Write.{Event, Rest, nothing, text, value, mark, unlabelled, littleEndianBytes, fitLeaf}
 use Rattle.laws.specs.Lists.{little-length}
 use Rattle.laws.specs.Facts.{or-false, by-bool}
@@ -41,6 +41,12 @@ use Rattle.fit.specs.Opens.{fitTruth, truth-not, truth-is, fitRecord, re
 use Rattle.fit.specs.Writes.{Holds}
 use Rattle.fit.specs.Laws.{along, refuses, puts-any}
 use Rattle.fit.specs.Row.{nextStep, row-writes, Marks, WritesRow, OpensGone, OpensHere, WritesValue, WritesText, leafOf, isJudged}
+
+-- both kinds of text have a place
+pub text-place : (judged : Bool) {kind : ℕ} → kind ≡ textRow judged → isPlace kind ≡ true
+unfolding isPlace
+text-place true e = rw e
+text-place false e = rw e
 
 -- what a call answered, in the terms of its definition
 pub told : {A B : Type 0} (f : A → B) {r c : A} {x : B} → f r ≡ x → r ≡ c → x ≡ f c

@@ -1,12 +1,13 @@
 // What a row shows, where it is a row of the kind that is wanted.
 ghost use mathlib.Core.Path.{_≡_};
-ghost use mathlib.Core.Bool.{cond};
+ghost use mathlib.Core.Bool.{cond, true};
 ghost use mathlib.Core.Option.{none, some};
 ghost use Prim.Native.Nat.{_≤_};
 ghost use lib.Dec.{eqb};
 ghost use lib.ListN.{length};
-ghost use Rattle.format.specs.Row.{integerRow, look as lookOf};
+ghost use Rattle.format.specs.Row.{integerRow, isPlace, look as lookOf};
 ghost use Rattle.fit.specs.Judged.{placeIn, valueIn, truthOf, frontOf, part, Inside, word, Small, truth, front};
+use format::ROW_WIDTH;
 use label::words;
 use rows::Seen;
 use rows::kind;
@@ -35,21 +36,27 @@ pub enum Front {
     Not,
 }
 
+// A kind that has a place. The row's other kinds are not looked at: texts are what most rows are.
 pub fn part_at(rows: &[u64], pool: &[u8], kind: u64, i: usize) -> Part
+    requires { ⌜ isPlace kind ≡ true ⌝ }
     ensures { λ r. ⌜ part r ≡ placeIn kind (lookOf (now (rows .entry)) (length (now (pool .entry))) i) ⌝ }
     ensures { λ r. ⌜ Inside (length (now (pool .entry))) r ⌝ }
 {
+    if rows.len() / ROW_WIDTH <= i {
+        return Part::Not;
+    }
+    let at = ROW_WIDTH * i;
+    if rows[at] != kind {
+        return Part::Not;
+    }
     let Seen::Place {
-        kind: shown,
+        kind: _,
         start,
         size,
-    } = rows::look(rows, pool, i)
+    } = rows::look_at_place(kind, rows[at + 1], rows[at + 2], pool.len() as u64)
     else {
         return Part::Not;
     };
-    if shown != kind {
-        return Part::Not;
-    }
     Part::At(start, size)
 }
 

@@ -109,8 +109,8 @@ fn is_row(kind: u64, a: u64, b: u64) -> bool
     (kind <= kind::ARRAY) & (b == 0)
 }
 
-// A sum of two words could wrap, so the start comes off the count.
-fn look_at_place(kind: u64, a: u64, b: u64, count: u64) -> Seen
+// The row of a kind that has a place. A sum of two words could wrap, so the start comes off the count.
+pub fn look_at_place(kind: u64, a: u64, b: u64, count: u64) -> Seen
     ensures { λ r. ⌜ seen r ≡ inside count (placed kind (record { start = a; size = b })) ⌝ }
     ensures { λ r. ⌜ rightCase r ⌝ }
 {

@@ -3,14 +3,16 @@ use denote.Ref.{now}
 use Rattle.fit.proofs.Facts.{told, fixed-none, fixed-long, fixed-some, near, few-rows}
 use Rattle.fit.specs.Judged.{part}
 use Rattle.fit.specs.Judged.{Inside}
-use mathlib.Core.Path.{subst}
+use mathlib.Core.Path.{refl, subst}
 use lib.ListN.{length}
+use Rattle.format.specs.Row.{isPlace}
 use borrow.Author.Needs.{needs}
 use Rattle.fit.proofs.leaf.fixed.Statement.{statement}
 use Rattle.fit.proofs.leaf.fixed.Tie as tie
 
 part-at-requires : tie.Need-part-at-requires
-part-at-requires c κs = search needs
+unfolding isPlace
+part-at-requires c κs = refl
 
 enum-known-start : tie.Need-enum-known-start
 enum-known-start c = search needs

@@ -7,7 +7,7 @@ use Prim.Native.Nat.{_≤_}
 use lib.ListN.{length}
 use borrow.Author.Tests.{not-true, not-false}
 use Rattle.fit.specs.Judged.{part, Inside}
-use Rattle.fit.proofs.Facts.{told, text-none, text-28, text-some, near, part-text}
+use Rattle.fit.proofs.Facts.{told, text-none, text-28, text-some, near, part-text, text-place}
 use borrow.Author.Needs.{needs}
 use Rattle.fit.proofs.leaf.text.Statement.{statement}
 use Rattle.fit.proofs.leaf.text.Tie as tie
@@ -16,7 +16,7 @@ kind-of-requires : tie.Need-kind-of-requires
 kind-of-requires c κs = search needs
 
 part-at-requires : tie.Need-part-at-requires
-part-at-requires c κs = search needs
+part-at-requires c κs = text-place (c .before .before .before .before .before .args .judged) (c .kind-of .ensures)
 
 enum-known-start : tie.Need-enum-known-start
 enum-known-start c = search needs
