@@ -19,7 +19,7 @@ use Rattle.laws.specs.Facts.{by-bool, absurd-some, and-true, true-and}
 use Rattle.store.specs.Words.{Seeks}
 use Rattle.store.specs.Laws.{nth-there}
 use Rattle.search.specs.Parts.{part-length, part-at}
-use Rattle.search.specs.Front.{Front, front, alike, common-is, front-short, alike-length, alike-agrees, unlike, front-met, front-passed}
+use Rattle.search.specs.Front.{Front, byteBack, sample, front, alike, common-is, front-short, alike-length, alike-agrees, unlike, front-met, front-passed}
 use Rattle.search.specs.Search.{placeOf, frontOf, secondWord, textOf, textsOf, Stands, Keeps}
 
 unequal : (a b : Text) → (a ≡ b → ⊥) → sameText a b ≡ false
@@ -84,6 +84,18 @@ module _ (pool : List ℕ) (v : Text) (ps : List Place) (j : ℕ) where
       let e : drop j texts ≡ [] = drop-of-length-le texts {i = j} (rw length-map h) in
       rw e
 
+-- ---- the sample
+
+pub sample-empty : (pool : List ℕ) (p : Place) → p .size ≡ 0 → 0 ≡ sample (bytesAt pool p)
+unfolding sample
+sample-empty pool p e = rw e
+
+pub sample-is : (v : Text) {n a b c d e f g h : ℕ} → length v ≡ n → a ≡ byteBack v 0 → b ≡ byteBack v (n / 8) → c ≡ byteBack v (n * 2 / 8) → d ≡ byteBack v (n * 3 / 8)
+    → e ≡ byteBack v (n * 4 / 8) → f ≡ byteBack v (n * 5 / 8) → g ≡ byteBack v (n * 6 / 8) → h ≡ byteBack v (n * 7 / 8)
+    → (a + 31 * b + (961 * c + 1119 * d) + (1921 * e + 2207 * f) + (2881 * g + 3295 * h)) % 4096 ≡ sample v
+unfolding sample
+sample-is v l a b c d e f g h = rw (a, b, c, d, e, f, g, h, ← l)
+
 -- ---- one turn
 
 -- the parts of the second word
@@ -133,9 +145,9 @@ pub record Reached (pool : List ℕ) (p : Place) (xs : List Place) (j near pairs
   pub equal : firstEqual (bytesAt pool p) (textsOf pool xs) ≡ equalFrom (bytesAt pool p) (textsOf pool xs) j
   pub learnt : front (bytesAt pool p) (textsOf pool xs) j ≡ record { near = near; pairs = pairs }
 
-pub reached-none : (pool : List ℕ) (p : Place) (xs : List Place) → Reached pool p xs 0 0 0
+pub reached-none : (pool : List ℕ) (p : Place) (xs : List Place) {near : ℕ} → near ≡ sample (bytesAt pool p) → Reached pool p xs 0 near 0
 unfolding front
-reached-none pool p xs = record { equal = from-start _ _; learnt = refl }
+reached-none pool p xs e = record { equal = from-start _ _; learnt = rw e }
 
 -- the text, and literal j
 pub record Turn (pool : List ℕ) (p : Place) (xs : List Place) (j near pairs : ℕ) (x : Place) : Type 0 where

@@ -1,10 +1,10 @@
 -- What the search for a text learns on its way, and keeps with the text for the searches after it.
 --
--- The texts of a key are looked through in order. Bytes are compared only with a text of the same length whose own search had come to the same point, its front: it may be equal, and shares the first bytes that are known already, so that they are not compared again. Equal texts have equal fronts, so that no other text can be equal. A search for n bytes among m texts compares n + 2 * m bytes at most, whatever the texts have in common.
+-- The texts of a key are looked through in order. Bytes are compared only with a text of the same length whose own search had come to the same point, its front: it may be equal, and shares the first bytes that are known already, so that they are not compared again. Before the first, it is one with the same sample of bytes. Equal texts have equal fronts, so that no other text can be equal. A search for n bytes among m texts compares n + 2 * m bytes at most, whatever the texts have in common.
 use mathlib.Core.Path.{_≡_, refl, sym, ap, _∙_}
 use mathlib.Core.Bool.{Bool, true, false, _&&_, cond}
 use mathlib.Core.List.{List, [], _∷_, _++_}
-use Prim.Native.Nat.{ℕ, zero, suc, _+_, _*_, _/_, _<_, _≤_}
+use Prim.Native.Nat.{ℕ, zero, suc, _+_, _-_, _*_, _/_, _%_, _<_, _≤_}
 use native.Mathlib.Omega.{arith}
 use lib.Dec.{eqb}
 use lib.ListN.{length, getD, List·getD-append}
@@ -18,7 +18,7 @@ common [] b = 0
 common (x ∷ a) [] = 0
 common (x ∷ a) (y ∷ b) = cond (eqb x y) (suc (common a b)) 0
 
--- The text whose bytes were compared last, and how many of its first bytes were equal, in pairs: 15 bits are enough for them.
+-- The text whose bytes were compared last, and how many of its first bytes were equal, in pairs: 15 bits are enough for them. Where none were, or none was compared, `near` may be any number.
 pub record Front : Type 0 where
   pub near : ℕ
   pub pairs : ℕ
@@ -31,9 +31,19 @@ alike n f m g = eqb m n && (eqb (g .near) (f .near) && eqb (g .pairs) (f .pairs)
 unfoldable pub met : Text → ℕ → Text → Front → Front → Front
 met v j u f g = cond (alike (length v) f (length u) g) (record { near = j; pairs = common v u / 2 }) f
 
--- The front of a text behind the first j texts.
+-- the byte that stands so far before the last
+abbrev pub byteBack : Text → ℕ → ℕ
+byteBack v back = getD v (length v - 1 - back) 0
+
+-- Eight bytes from all over a text, the last one among them, as a number of 12 bits. Texts that differ there have different numbers, nearly always.
+unfoldable pub sample : Text → ℕ
+sample v =
+    (byteBack v 0 + 31 * byteBack v (length v / 8) + (961 * byteBack v (length v * 2 / 8) + 1119 * byteBack v (length v * 3 / 8))
+    + (1921 * byteBack v (length v * 4 / 8) + 2207 * byteBack v (length v * 5 / 8)) + (2881 * byteBack v (length v * 6 / 8) + 3295 * byteBack v (length v * 7 / 8))) % 4096
+
+-- The front of a text behind the first j texts. Before any is compared, some of its own bytes are all that is known.
 unfoldable pub front : Text → List Text → ℕ → Front
-front v ts zero = record { near = 0; pairs = 0 }
+front v ts zero = record { near = sample v; pairs = 0 }
 front v ts (suc j) = met v j (getD ts j []) (front v ts j) (front (getD ts j []) ts j)
 
 -- ---- laws

@@ -63,7 +63,7 @@ module _ (c : tie.After-get Inv-loop μ-loop Inv-search μ-search) where
   turn = c .before .before
 
   abbrev entry : tie.Start Inv-loop μ-loop Inv-search μ-search
-  entry = turn .before .before .before .before .before .before
+  entry = turn .before .before .before .before .before .before .before
 
   abbrev j : ℕ
   j = turn .search .j
@@ -105,6 +105,9 @@ learnt c =
 count-requires : tie.Need-count-requires Inv-loop μ-loop Inv-search μ-search
 count-requires c κs = search needs
 
+sample-requires : tie.Need-sample-requires Inv-loop μ-loop Inv-search μ-search
+sample-requires c κs = search needs
+
 second-word-requires : tie.Need-second-word-requires Inv-loop μ-loop Inv-search μ-search
 second-word-requires c κs = search needs
 
@@ -113,15 +116,15 @@ seek-requires c κs = search needs
 
 search-holds : tie.Need-search-holds Inv-loop μ-loop Inv-search μ-search
 search-holds c =
-    let s = c .before .before .before .before .before in
-    let o = onward s (c .before .second-word .ensures .0) (c .seek .ensures) (reached-none _ _ _) in
-    (omega (arith, c .seek .ensures .most, c .before .before .count .ensures .0), omega arith, omega arith, o .0, o .1)
+    let s = c .before .before .before .before .before .before in
+    let o = onward s (c .before .second-word .ensures .0) (c .seek .ensures) (reached-none _ _ _ (c .before .before .sample .ensures .0)) in
+    (omega (arith, c .seek .ensures .most, c .before .before .before .count .ensures .0), omega arith, omega arith, o .0, o .1)
 
 get-requires : tie.Need-get-requires Inv-loop μ-loop Inv-search μ-search
 get-requires c κs =
     let t = c .before in
-    let s = t .before .before .before .before .before .before in
-    (s .pre .0, s .pre .2, omega (arith, t .before .before .before .count .ensures .0))
+    let s = t .before .before .before .before .before .before .before in
+    (s .pre .0, s .pre .2, omega (arith, t .before .before .before .before .count .ensures .0))
 
 mul-k : tie.Need-mul-k Inv-loop μ-loop Inv-search μ-search
 mul-k c = search needs
@@ -170,7 +173,7 @@ search-again c =
     let l = learnt (c .before .before) in
     let t = turn (c .before .before .before) in
     let o = onward (entry (c .before .before .before)) (c .before .second-word2 .ensures .0) (c .seek2 .ensures) (l .2) in
-    (omega (arith, c .seek2 .ensures .most, t .before .before .before .count .ensures .0), l .0, l .1, o .0, o .1)
+    (omega (arith, c .seek2 .ensures .most, t .before .before .before .before .count .ensures .0), l .0, l .1, o .0, o .1)
 
 mul-t28 : tie.Need-mul-t28 Inv-loop μ-loop Inv-search μ-search
 mul-t28 c = search needs
@@ -193,8 +196,8 @@ returns c =
 returns-2 : tie.Need-returns-2 Inv-loop μ-loop Inv-search μ-search
 returns-2 c =
     let l = c .before .before .before in
-    let s = l .before .before .before .before .before .before in
-    let n : l .search .j ≡ length (xs s) = omega (arith, l .before .before .before .count .ensures .0) in
+    let s = l .before .before .before .before .before .before .before in
+    let n : l .search .j ≡ length (xs s) = omega (arith, l .before .before .before .before .count .ensures .0) in
     let f = rw (n, ← length-map (xs s) (textOf (pool s))) at (l .search .inv .4 .learnt) in (
       sym (l .search .inv .4 .equal ∙ from-end (pool s) _ (xs s) (l .search .j) (omega arith)),
       ((omega arith, c .second-word3 .ensures .1), keeps (pool s) _ _ (omega arith) (omega arith) (l .search .inv .1) (c .second-word3 .ensures .0) f),
@@ -209,6 +212,7 @@ choose-spec =
     Inv-search
     μ-search
     count-requires
+    sample-requires
     second-word-requires
     seek-requires
     search-holds
