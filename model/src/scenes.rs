@@ -47,6 +47,7 @@ pub fn pairs() -> Vec<[Scene; 2]> {
         [600, 1_200].map(night),
         [2_048, 4_096].map(|literals| texts(literals, 0)),
         [2_048, 4_096].map(|literals| texts(literals, literals * 4_000 / 4_096)),
+        [2_048, 4_096].map(scattered),
         [4_095, 8_191].map(empty_records),
         [2_047, 4_095].map(truths),
         [125, 250].map(deep),
@@ -79,20 +80,31 @@ fn night(jobs: usize) -> Scene {
     Scene::new(&name, &Night::nodes(), list, pool)
 }
 
-/// Different texts first, then references all over them.
+/// Different texts that have much in common first, then references all over them.
 fn texts(literals: usize, repeats: usize) -> Scene {
-    let pool: Vec<u8> = (0..literals)
-        .flat_map(|i| format!("{i:06}").into_bytes())
-        .collect();
-    let text = |i: usize| [rows::STRING, 6 * i as u64, 6];
-    let mut list = vec![rows::ARRAY, (literals + repeats) as u64, 0];
-    list.extend((0..literals).flat_map(text));
-    list.extend((0..repeats).flat_map(|i| text(i * 2_654_435_761 % literals)));
     let name = match repeats {
         0 => format!("{} different texts", commas(literals)),
         _ => format!("{} texts, {} repeats", commas(literals), commas(repeats)),
     };
-    Scene::new(&name, &table_s(), list, pool)
+    array(&name, literals, repeats, |i| format!("{i:06}"))
+}
+
+/// Different texts of one length that have little in common.
+fn scattered(literals: usize) -> Scene {
+    let name = format!("{} scattered texts", commas(literals));
+    array(&name, literals, 0, |i| {
+        format!("{:06x}", (i * 0x9e_3779 + 1) % 0x100_0000)
+    })
+}
+
+/// An array of texts of six bytes, all different but for the repeats.
+fn array(name: &str, literals: usize, repeats: usize, spell: fn(usize) -> String) -> Scene {
+    let pool: Vec<u8> = (0..literals).flat_map(|i| spell(i).into_bytes()).collect();
+    let text = |i: usize| [rows::STRING, 6 * i as u64, 6];
+    let mut list = vec![rows::ARRAY, (literals + repeats) as u64, 0];
+    list.extend((0..literals).flat_map(text));
+    list.extend((0..repeats).flat_map(|i| text(i * 2_654_435_761 % literals)));
+    Scene::new(name, &table_s(), list, pool)
 }
 
 fn empty_records(entries: usize) -> Scene {

@@ -228,7 +228,7 @@ fn on_page(j: usize, n: usize) -> usize
     requires { ⌜ j < n ⌝ }
     ensures { λ r. ⌜ (0 < r) × (j + r ≤ n) × (j % 64 + r ≤ 64) ⌝ }
 {
-    let rest = 16 - j % 16;
+    let rest = 64 - j % 64;
     if n - j < rest {
         return n - j;
     }
