@@ -1,6 +1,6 @@
 -- What the search for a text learns on its way, and keeps with the text for the searches after it.
 --
--- The texts of a key are looked through in order. Bytes are compared only with a text of the same length whose own search had come to the same point, its front: it may be equal, and shares the first bytes that are known already, so that they are not compared again. Before the first, it is one with the same sample of bytes. Equal texts have equal fronts, so that no other text can be equal. A search for n bytes among m texts compares n + 2 * m bytes at most, whatever the texts have in common.
+-- The texts of a key are looked through in order. Bytes are compared only with a text of the same length whose own search had come to the same point, its front: it may be equal, and shares the first bytes that are known already, so that they are not compared again. Before the first, it is one with the same sample of bytes. Equal texts have equal fronts, so that no other text can be equal. A search for n bytes among m texts compares n + 2 * m bytes at most, whatever the texts have in common (`Compared`).
 use mathlib.Core.Path.{_≡_, refl, sym, ap, _∙_}
 use mathlib.Core.Bool.{Bool, true, false, _&&_, cond}
 use mathlib.Core.List.{List, [], _∷_, _++_}
