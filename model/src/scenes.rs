@@ -89,12 +89,17 @@ fn texts(literals: usize, repeats: usize) -> Scene {
     array(&name, literals, repeats, |i| format!("{i:06}"))
 }
 
-/// Different texts of one length that have little in common.
+/// Different texts of one length that have little in common: numbers far apart, to the base 64.
 fn scattered(literals: usize) -> Scene {
     let name = format!("{} scattered texts", commas(literals));
     array(&name, literals, 0, |i| {
-        format!("{:06x}", (i * 0x9e_3779 + 1) % 0x100_0000)
+        let number = i.wrapping_mul(0x9_e377_9b97);
+        (0..6).map(|place| digit(number >> (6 * place))).collect()
     })
+}
+
+fn digit(number: usize) -> char {
+    b"ABCDEFGHIJKLMNOPQRSTUVWXYZabcdefghijklmnopqrstuvwxyz0123456789-_"[number % 64] as char
 }
 
 /// An array of texts of six bytes, all different but for the repeats.
