@@ -2,7 +2,7 @@
 use mathlib.Core.Path.{_≡_, refl, sym, ap, subst}
 use mathlib.Core.Bool.{Bool, true, false}
 use mathlib.Core.List.{List}
-use Prim.Native.Nat.{ℕ, _+_, _≤_}
+use Prim.Native.Nat.{ℕ, _+_}
 use native.Mathlib.Omega.{arith}
 use lib.Dec.{eqb}
 use lib.IntN.{pos}
@@ -21,10 +21,10 @@ use Rattle.fit.specs.Writes.{Holds}
 use Rattle.fit.specs.Row.{Marks, WritesRow}
 use Rattle.fit.proofs.Facts.{open-plain, record-plain}
 use Rattle.pass.specs.declared.descent.Holder.the-variants.{One}
-use Rattle.pass.specs.declared.descent.Descent.{Descent}
-use Rattle.pass.specs.declared.descent.Descent.the-variants.{To, Stop}
+use Rattle.pass.specs.declared.descent.Descent.the-variants.{To}
 use Rattle.pass.specs.Pass.{WritesNode, WritesWire}
-use Rattle.pass.specs.Descent.{OneEntry, OneField, Alone, Enters, Stands, Onward, Leads, Stops, Descends}
+use Rattle.pass.specs.Onward.{Onward}
+use Rattle.pass.specs.Descent.{OneEntry, OneField, Alone, Enters, Stands, Stops, Descends}
 use Rattle.pass.proofs.Values.{row-holds, mark-holds, marks-as, own-fits, fields-fit, entry-fits, value-here, record-not, record-then, array-refused, array-then}
 use Rattle.pass.proofs.Loops.{fields-begin, fields-fits}
 use Rattle.pass.proofs.Runs.{entry-alone, field-alone}
@@ -40,6 +40,10 @@ module _ (how : Pass) (table pool rows out w : List ℕ) (i core node : ℕ) (ho
     wire-fits : FitsWire table w 32 node
     wire-fits = own-fits table w node (sym z) refl fits
 
+  -- to the value behind this node
+  abbrev Inward : List ℕ → ℕ → ℕ → Bool → Type 0
+  Inward out₁ i₁ core₁ o₁ = Onward (how .put) table pool rows out core i node false core₁ i₁ (node + 1) (λ w₁. FitsNode table w₁ 32 (node + 1)) (λ h w₁ out₂ w₂ r. WritesNode h table pool rows out₁ w₁ core₁ out₂ w₂ r i₁ (node + 1) o₁) how w
+
   module _ {out₁ : List ℕ} {r₁ : Step} where
     module _ (x : OneEntry table pool rows node i) (d : Marks (how .put) out out₁ i core r₁ (pos 1)) where
       no-front-entry : eqb (nodeAt table node .kind) NULLABLE ≡ false
@@ -48,7 +52,7 @@ module _ (how : Pass) (table pool rows out w : List ℕ) (i core node : ℕ) (ho
       entry-not : {n j : ℕ} → r₁ ≡ Refused n j → WritesNode how table pool rows out w core out₁ w r₁ i node false
       entry-not q = plain no-front-entry (array-refused how table pool rows out w i core node holds (x .kind) (x .row) (omega arith) (marks-as (sym (integer-low (omega arith))) d) q refl)
 
-      entry-onward : {put : Bool} {i₁ core₁ : ℕ} → r₁ ≡ Done i₁ core₁ → Onward put table pool rows out core i node false out₁ core₁ i₁ (node + 1) false how w
+      entry-onward : {i₁ core₁ : ℕ} → r₁ ≡ Done i₁ core₁ → Inward out₁ i₁ core₁ false
       entry-onward q = record {
         holds = mark-holds holds (value-there pool rows i arrayRow (x .row)) d q;
         fits = entry-fits table w node {count = 1} (x .kind) (wire-fits no-front-entry) .entries refl;
@@ -65,8 +69,8 @@ module _ (how : Pass) (table pool rows out w : List ℕ) (i core node : ℕ) (ho
       field-not : {n j : ℕ} → r₁ ≡ Refused n j → WritesNode how table pool rows out w core out₁ w r₁ i node false
       field-not q = plain no-front-field (record-not how table pool rows out w i core node holds false (x .kind) (sym (x .count)) own-row q refl)
 
-      field-onward : {put : Bool} {i₁ core₁ : ℕ} → r₁ ≡ Done i₁ core₁ → Onward put table pool rows out core i node false out₁ core₁ i₁ (node + 1) (absentIn false (nodeAt table (node + 1))) how w
-      field-onward {i₁ = i₁} {core₁} q =
+      field-onward : {i₁ core₁ : ℕ} → r₁ ≡ Done i₁ core₁ → Inward out₁ i₁ core₁ (absentIn false (nodeAt table (node + 1)))
+      field-onward {i₁} {core₁} q =
           let h = row-holds holds own-row q in
           record {
             holds = h;
@@ -78,19 +82,18 @@ module _ (how : Pass) (table pool rows out w : List ℕ) (i core node : ℕ) (ho
     step-not true x d q = entry-not x d q
     step-not false x d q = field-not x (d .0) (d .1) q
 
-    step-onward : (array : Bool) {put : Bool} {i₁ core₁ : ℕ} → Alone table pool rows node i (One array) → Enters (how .put) out out₁ i core r₁ array → r₁ ≡ Done i₁ core₁
-        → Onward put table pool rows out core i node false out₁ core₁ i₁ (node + 1) (absentIn array (nodeAt table (node + 1))) how w
+    step-onward : (array : Bool) {i₁ core₁ : ℕ} → Alone table pool rows node i (One array) → Enters (how .put) out out₁ i core r₁ array → r₁ ≡ Done i₁ core₁ → Inward out₁ i₁ core₁ (absentIn array (nodeAt table (node + 1)))
     step-onward true x d q = entry-onward x d q
     step-onward false x d q = field-onward x (d .0) (d .1) q
 
 -- ---- all the way down
 
 module _ (put : Bool) (table pool rows out₀ : List ℕ) (core₀ i₀ node₀ : ℕ) (o₀ : Bool) where
-  pub leads-self : Leads put table pool rows out₀ core₀ i₀ node₀ o₀ out₀ core₀ i₀ node₀ o₀
+  pub leads-self : Descends put table pool rows out₀ core₀ i₀ node₀ o₀ out₀ (To node₀ o₀ i₀ core₀)
   leads-self = record { behind = omega arith; onward = λ how e w h f. record { holds = h; fits = f; whole = λ y. y } }
 
-  module _ (out : List ℕ) (core i node : ℕ) {o : Bool} (x : Leads put table pool rows out₀ core₀ i₀ node₀ o₀ out core i node o) where
-    pub leads-as : {o₁ : Bool} → o ≡ o₁ → Leads put table pool rows out₀ core₀ i₀ node₀ o₀ out core i node o₁
+  module _ (out : List ℕ) (core i node : ℕ) {o : Bool} (x : Descends put table pool rows out₀ core₀ i₀ node₀ o₀ out (To node o i core)) where
+    pub leads-as : {o₁ : Bool} → o ≡ o₁ → Descends put table pool rows out₀ core₀ i₀ node₀ o₀ out (To node o₁ i core)
     leads-as e = rw (← e) x
 
     pub still-stands : Stands table pool rows i₀ core₀ node₀ → Stands table pool rows i core node
@@ -99,12 +102,12 @@ module _ (put : Bool) (table pool rows out₀ : List ℕ) (core₀ i₀ node₀ 
         record { work = s .work; holds = y .holds; fits = y .fits }
 
     module _ (whole : Sized table) (z : o ≡ false) (array : Bool) (a : Alone table pool rows node i (One array)) {out₁ : List ℕ} {r₁ : Step} (d : Enters put out out₁ i core r₁ array) where
-      pub leads-again : {i₁ core₁ : ℕ} {o₁ : Bool} → r₁ ≡ Done i₁ core₁ → o₁ ≡ absentIn array (nodeAt table (node + 1)) → Leads put table pool rows out₀ core₀ i₀ node₀ o₀ out₁ core₁ i₁ (node + 1) o₁
+      pub leads-again : {i₁ core₁ : ℕ} {o₁ : Bool} → r₁ ≡ Done i₁ core₁ → o₁ ≡ absentIn array (nodeAt table (node + 1)) → Descends put table pool rows out₀ core₀ i₀ node₀ o₀ out₁ (To (node + 1) o₁ i₁ core₁)
       leads-again q t = rw t (record {
         behind = omega (arith, x .behind);
         onward = λ how e w h f.
             let y = leads-as z .onward how e w h f in
-            let s = step-onward how table pool rows out w i core node (y .holds) (y .fits) whole array {put = put} a (subst (λ p. Enters p out out₁ i core r₁ array) (sym e) d) q in
+            let s = step-onward how table pool rows out w i core node (y .holds) (y .fits) whole array a (subst (λ p. Enters p out out₁ i core r₁ array) (sym e) d) q in
             record { holds = s .holds; fits = s .fits; whole = λ u. y .whole (s .whole u) };
       })
 
@@ -113,20 +116,9 @@ module _ (put : Bool) (table pool rows out₀ : List ℕ) (core₀ i₀ node₀ 
         number = n;
         second = j;
         refused = q;
-        writes = λ how e w h f.
-            let y = leads-as z .onward how e w h f in
-            y .whole (step-not how table pool rows out w i core node (y .holds) (y .fits) whole array a (subst (λ p. Enters p out out₁ i core r₁ array) (sym e) d) q);
+        ends = record {
+          writes = λ how e w h f.
+              let y = leads-as z .onward how e w h f in
+              y .whole (step-not how table pool rows out w i core node (y .holds) (y .fits) whole array a (subst (λ p. Enters p out out₁ i core r₁ array) (sym e) d) q);
+        };
       })
-
--- ---- by what was answered
-
-module _ (how : Pass) (table pool rows out w : List ℕ) (i core node : ℕ) {o : Bool} (holds : Holds pool rows w i core) (fits : FitsNode table w 32 node) (out₁ : List ℕ) {d : Descent} (x : Descends (how .put) table pool rows out core i node o out₁ d) where
-  pub led-on : {node₁ i₁ core₁ : ℕ} {o₁ : Bool} → d ≡ To node₁ o₁ i₁ core₁ → (node ≤ node₁) × Onward (how .put) table pool rows out core i node o out₁ core₁ i₁ node₁ o₁ how w
-  led-on q =
-      let y = subst (λ a. Descends (how .put) table pool rows out core i node o out₁ a) q x in
-      (y .behind, y .onward how refl w holds fits)
-
-  pub stopped : {r : Step} → d ≡ Stop r → (n : ℕ) × (j : ℕ) × (r ≡ Refused n j) × WritesNode how table pool rows out w core out₁ w r i node o
-  stopped q =
-      let y = subst (λ a. Descends (how .put) table pool rows out core i node o out₁ a) q x in
-      (y .number, y .second, y .refused, y .writes how refl w holds fits)

@@ -1,8 +1,8 @@
 -- A value alone, or a record as its fields: from the values where it begins to the whole. Assumes nothing.
-use mathlib.Core.Path.{_≡_, refl, sym, ap, _∙_}
+use mathlib.Core.Path.{_≡_, refl, sym, ap}
 use mathlib.Core.Bool.{Bool, false}
 use mathlib.Core.List.{List}
-use Prim.Native.Nat.{ℕ, _+_, _≤_}
+use Prim.Native.Nat.{ℕ, _+_}
 use native.Mathlib.Omega.{arith}
 use lib.Dec.{eqb}
 use Rattle.format.specs.Table.{nodeAt, omittable, RECORD, NULLABLE}
@@ -12,20 +12,18 @@ use Rattle.fit.specs.declared.Step.the-variants.{Done, Refused}
 use Rattle.fit.specs.declared.Pass.{Pass}
 use Rattle.fit.specs.Rest.{restOf}
 use Rattle.fit.specs.Opens.{fitRecord}
-use Rattle.fit.specs.Writes.{Holds}
 use Rattle.fit.specs.Row.{WritesRow}
-use Rattle.pass.specs.declared.start.Start.{Start}
-use Rattle.pass.specs.declared.start.Start.the-variants.{Values, Whole}
-use Rattle.pass.specs.Pass.{WritesNode}
+use Rattle.pass.specs.declared.start.Start.the-variants.{Values}
 use Rattle.pass.specs.Group.{FitGroup}
-use Rattle.pass.specs.Start.{Onward, Begins, Ends, Starts, stepOf}
+use Rattle.pass.specs.Onward.{Ends}
+use Rattle.pass.specs.Start.{Starts}
 use Rattle.pass.proofs.Values.{row-holds, own-fits, fields-fit, record-not, record-then}
 use Rattle.pass.proofs.Runs.{no-fields}
 use Rattle.pass.proofs.Descents.{plain}
 use Rattle.pass.proofs.Groups.{alone-fits, alone-writes, fields-group, fields-write}
 
 module _ (put : Bool) (table pool rows out : List ℕ) (core i node : ℕ) where
-  pub start-alone : (o : Bool) → Begins put table pool rows out core i node o out node 1 o i core
+  pub start-alone : (o : Bool) → Starts put table pool rows out core i node o out (Values node 1 o i core)
   start-alone o = record { behind = omega arith; onward = λ how e w h f. record { holds = h; fits = alone-fits f; whole = λ y. alone-writes y } }
 
   -- a record with nothing in front of it, by its own row
@@ -49,7 +47,7 @@ module _ (put : Bool) (table pool rows out : List ℕ) (core i node : ℕ) where
             (record-then how table pool rows out w i core node h false k c (row-of how e) q (no-fields how table pool rows out₁ w (node + 1) count i₁ core₁ (row-holds h (row-of how e) q) whole z));
       }
 
-      pub start-fields : {i₁ core₁ : ℕ} {o : Bool} → (count ≡ 0 → ⊥) → r₁ ≡ Done i₁ core₁ → o ≡ omittable (nodeAt table (node + 1)) → Begins put table pool rows out core i node false out₁ (node + 1) count o i₁ core₁
+      pub start-fields : {i₁ core₁ : ℕ} {o : Bool} → (count ≡ 0 → ⊥) → r₁ ≡ Done i₁ core₁ → o ≡ omittable (nodeAt table (node + 1)) → Starts put table pool rows out core i node false out₁ (Values (node + 1) count o i₁ core₁)
       start-fields z q t = rw t (record {
         behind = omega arith;
         onward = λ how e w h f. record {
@@ -58,12 +56,3 @@ module _ (put : Bool) (table pool rows out : List ℕ) (core i node : ℕ) where
           whole = λ y. plain how table pool rows out w i core node h f whole no-front (record-then how table pool rows out w i core node h false k c (row-of how e) q (fields-write z y));
         };
       })
-
--- ---- by what was answered
-
-module _ (how : Pass) (table pool rows out w : List ℕ) (i core node : ℕ) {o : Bool} (holds : Holds pool rows w i core) (fits : FitsNode table w 32 node) (out₁ : List ℕ) {s : Start} (x : Starts (how .put) table pool rows out core i node o out₁ s) where
-  pub begun : {node₁ count i₁ core₁ : ℕ} {o₁ : Bool} → s ≡ Values node₁ count o₁ i₁ core₁ → (node ≤ node₁) × Onward (how .put) table pool rows out core i node o out₁ node₁ count o₁ i₁ core₁ how w
-  begun q = let y = rw q at x in (y .behind, y .onward how refl w holds fits)
-
-  pub ended : {r r₁ : Step} → s ≡ Whole r → r₁ ≡ stepOf s → WritesNode how table pool rows out w core out₁ w r₁ i node o
-  ended q t = let y = rw q at x in rw (t ∙ ap stepOf q) (y .writes how refl w holds fits)

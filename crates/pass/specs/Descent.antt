@@ -3,14 +3,13 @@ use mathlib.Core.Path.{_≡_}
 use mathlib.Core.Bool.{Bool, true, false}
 use mathlib.Core.List.{List}
 use mathlib.Core.Option.{some}
-use Prim.Native.Nat.{ℕ, _+_, _≤_}
+use Prim.Native.Nat.{ℕ, _+_}
 use lib.IntN.{pos}
 use Rattle.format.specs.Table.{nodeAt, RECORD, ARRAY}
 use Rattle.format.specs.Row.{recordRow, arrayRow}
 use Rattle.typed.specs.Typed.{FitsNode}
 use Rattle.fit.specs.declared.Step.{Step}
 use Rattle.fit.specs.declared.Step.the-variants.{Done, Refused}
-use Rattle.fit.specs.declared.Pass.{Pass}
 use Rattle.fit.specs.Judged.{valueIn}
 use Rattle.fit.specs.Fits.{looked}
 use Rattle.fit.specs.Writes.{Holds}
@@ -20,6 +19,7 @@ use Rattle.pass.specs.declared.descent.Holder.the-variants as holders
 use Rattle.pass.specs.declared.descent.Descent.{Descent}
 use Rattle.pass.specs.declared.descent.Descent.the-variants.{To, Stop}
 use Rattle.pass.specs.Pass.{WritesNode}
+use Rattle.pass.specs.Onward.{Leads, Ends}
 
 -- row i is one of this kind, whose word is 1
 pub record IsOne (pool rows : List ℕ) (kind i : ℕ) (r : Bool) : Type 0 where
@@ -51,28 +51,17 @@ pub record Stands (table pool rows : List ℕ) (i core node : ℕ) : Type 0 wher
   pub holds : Holds pool rows work i core
   pub fits : FitsNode table work 32 node
 
--- From a value at `node`, before which the output is out, down to one at node′, before which it is out′: for any pass that puts or counts so, and any work that holds a plan.
+-- From a value at `node`, before which the output is out, down to one at node′, before which it is out′.
 module _ (put : Bool) (table pool rows out : List ℕ) (core i node : ℕ) (omittable : Bool) (out′ : List ℕ) where
-  module _ (core′ i′ node′ : ℕ) (omittable′ : Bool) where
-    -- the plan and the type are there still, and who writes the inner value has written the outer
-    pub record Onward (how : Pass) (w : List ℕ) : Type 0 where
-      pub holds : Holds pool rows w i′ core′
-      pub fits : FitsNode table w 32 node′
-      pub whole : {out₂ w₂ : List ℕ} {r : Step} → WritesNode how table pool rows out′ w core′ out₂ w₂ r i′ node′ omittable′ → WritesNode how table pool rows out w core out₂ w₂ r i node omittable
-
-    pub record Leads : Type 0 where
-      pub behind : node ≤ node′
-      pub onward : (how : Pass) → how .put ≡ put → (w : List ℕ) → Holds pool rows w i core → FitsNode table w 32 node → Onward how w
-
   -- a refusal on the way is one of the outer value
   pub record Stops (r : Step) : Type 0 where
     pub number : ℕ
     pub second : ℕ
     pub refused : r ≡ Refused number second
-    pub writes : (how : Pass) → how .put ≡ put → (w : List ℕ) → Holds pool rows w i core → FitsNode table w 32 node → WritesNode how table pool rows out w core out′ w r i node omittable
+    pub ends : Ends put table pool rows out core i node omittable out′ r
 
   abbrev pub Descends : Descent → Type 0
-  Descends (To node′ omittable′ i′ core′) = Leads core′ i′ node′ omittable′
+  Descends (To node′ omittable′ i′ core′) = Leads put table pool rows out core i node omittable core′ i′ node′ (λ w. FitsNode table w 32 node′) (λ how w out₂ w₂ r. WritesNode how table pool rows out′ w core′ out₂ w₂ r i′ node′ omittable′)
   Descends (Stop r) = Stops r
 
 abbrev pub stepOf : Descent → Step

@@ -35,7 +35,7 @@ met v j u f g = cond (alike (length v) f (length u) g) (record { near = j; pairs
 abbrev pub byteBack : Text → ℕ → ℕ
 byteBack v back = getD v (length v - 1 - back) 0
 
--- Eight bytes from all over a text, the last one among them, as a number of 12 bits. Texts that differ there have different numbers, nearly always.
+-- Eight bytes from all over a text, the last one among them, as a number of 12 bits; the factors are the powers of 31. Texts that differ there have different numbers, nearly always.
 unfoldable pub sample : Text → ℕ
 sample v =
     (byteBack v 0 + 31 * byteBack v (length v / 8) + (961 * byteBack v (length v * 2 / 8) + 1119 * byteBack v (length v * 3 / 8))

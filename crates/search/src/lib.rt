@@ -34,7 +34,7 @@ fn byte_back(pool: &[u8], start: usize, size: usize, back: usize) -> usize
     pool[start + (size - 1 - back)] as usize
 }
 
-// Some bytes from all over a text, as a number.
+// Some bytes from all over a text, as a number. The factors are the powers of 31, so that the order of the bytes matters.
 fn sample(pool: &[u8], start: usize, size: usize) -> usize
     requires { ⌜ (start + size ≤ length (now pool)) × (length (now pool) ≤ 65536) ⌝ }
     ensures { λ r. ⌜ (r ≡ sampleOf (bytesAt (now (pool .entry)) (record { start = start; size = size }))) × (r < 4096) ⌝ }

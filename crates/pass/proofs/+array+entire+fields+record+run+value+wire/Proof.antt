@@ -6,9 +6,8 @@ use mathlib.Core.Path.{_≡_, refl, sym, ap, _∙_, subst}
 use Rattle.pass.proofs.Values.{begins, row-holds, mark-holds, marks-as, opened-gone, opened-here, own-fits, own-onward, fields-fit, entry-fits, value-gone, value-here, wire-boolean, wire-array, record-not, record-then, array-none, array-refused, array-then}
 use Rattle.pass.proofs.Runs.{RunAt, run-begin, run-fits, run-not, run-again, run-end, no-fields}
 use Rattle.pass.specs.Descent.{stepOf}
-use Rattle.pass.proofs.Descents.{led-on, stopped}
+use Rattle.pass.specs.Start.{stepOf as startStep}
 use Rattle.pass.proofs.Groups.{GroupAt, group-begin, group-fits, group-not, group-again, group-end}
-use Rattle.pass.proofs.Starts.{begun, ended}
 use lib.Dec.{eqb}
 use Prim.Native.Nat.{_+_, _-_, _*_}
 use mir.Syntax.{w64}
@@ -254,7 +253,7 @@ entire-returns t c =
     let c5 = c1 .before .before .before .before in
     let c12 = c5 .before .before .before .before .before .before .before in
     let a = c12 .args in
-    ended (a .how) (now (a .table)) (now (a .pool)) (now (a .rows)) (now (a .out)) (now (a .work)) (a .i) (a .core) (a .node) (c12 .pre .1 .0) (c12 .pre .1 .2) _ (c5 .begin .ensures) (c1 .enum-told .given .1) (c .step .ensures)
+    rw (c .step .ensures ∙ ap startStep (c1 .enum-told .given .1)) ((rw (c1 .enum-told .given .1) at (c5 .begin .ensures)) .writes (a .how) refl (now (a .work)) (c12 .pre .1 .0) (c12 .pre .1 .2))
 
 entire-fields-requires : (t : ℕ) → entire-lts.Need-fields-requires (entire-uses t) (entire-at t) entire.Post
 entire-fields-requires t c κs =
@@ -262,8 +261,9 @@ entire-fields-requires t c κs =
     let c7 = c3 .before .before .before .before in
     let c14 = c7 .before .before .before .before .before .before .before in
     let a = c14 .args in
-    let y = begun (a .how) (now (a .table)) (now (a .pool)) (now (a .rows)) (now (a .out)) (now (a .work)) (a .i) (a .core) (a .node) (c14 .pre .1 .0) (c14 .pre .1 .2) _ (c7 .begin .ensures) (c3 .s .given .1) in
-    (omega (arith, c14 .pre .0, y .0), (y .1 .holds, c14 .pre .1 .1, y .1 .fits))
+    let y = rw (c3 .s .given .1) at (c7 .begin .ensures) in
+    let z = y .onward (a .how) refl (now (a .work)) (c14 .pre .1 .0) (c14 .pre .1 .2) in
+    (omega (arith, c14 .pre .0, y .behind), (z .holds, c14 .pre .1 .1, z .fits))
 
 entire-same-length-2 : (t : ℕ) → entire-lts.Need-same-length-2 (entire-uses t) (entire-at t) entire.Post
 entire-same-length-2 t c = search needs
@@ -278,7 +278,7 @@ entire-returns-2 t c =
     let c12 = c8 .before .before .before .before in
     let c19 = c12 .before .before .before .before .before .before .before in
     let a = c19 .args in
-    begun (a .how) (now (a .table)) (now (a .pool)) (now (a .rows)) (now (a .out)) (now (a .work)) (a .i) (a .core) (a .node) (c19 .pre .1 .0) (c19 .pre .1 .2) _ (c12 .begin .ensures) (c8 .s .given .1) .1 .whole (c4 .fields .ensures)
+    (rw (c8 .s .given .1) at (c12 .begin .ensures)) .onward (a .how) refl (now (a .work)) (c19 .pre .1 .0) (c19 .pre .1 .2) .whole (c4 .fields .ensures)
 
 abbrev fields-Inv-loop : fields-lts.InvT-loop
 fields-Inv-loop table rows pool out₀ work₀ how omittable node count i core k₀ at₀ n₀ end₀ absent₀ out work k at n end absent = GroupAt how table pool rows out₀ work₀ omittable node count i core out work k at absent n end
@@ -462,8 +462,8 @@ run-returns t c =
     let a = c17 .args in
     let x = c11 .loop in
     let f = run-fits (a .how) (now (a .table)) (now (a .pool)) (now (a .rows)) (now (a .out)) (now (a .work)) (a .node) (a .repeated) (a .count) (a .i) (a .core) (x .out) (x .work) (x .k) (x .at) (x .n) (x .end) (x .inv) (c17 .pre .1 .1) (c17 .pre .1 .2) (c10 .loop-test .taken) in
-    let y = stopped (a .how) (now (a .table)) (now (a .pool)) (now (a .rows)) (x .out) (x .work) (x .n) (x .end) (x .at) (x .inv .holds) f _ (c5 .descend .ensures) (c1 .enum-told .given .1) in
-    run-not (a .how) (now (a .table)) (now (a .pool)) (now (a .rows)) (now (a .out)) (now (a .work)) (a .node) (a .repeated) (a .count) (a .i) (a .core) (x .out) (x .work) (x .k) (x .at) (x .n) (x .end) (x .inv) (c17 .pre .1 .1) (c10 .loop-test .taken) (c9 .may-be-absent .ensures) (y .3) (y .2) (c .step .ensures ∙ ap stepOf (c1 .enum-told .given .1))
+    let y = rw (c1 .enum-told .given .1) at (c5 .descend .ensures) in
+    run-not (a .how) (now (a .table)) (now (a .pool)) (now (a .rows)) (now (a .out)) (now (a .work)) (a .node) (a .repeated) (a .count) (a .i) (a .core) (x .out) (x .work) (x .k) (x .at) (x .n) (x .end) (x .inv) (c17 .pre .1 .1) (c10 .loop-test .taken) (c9 .may-be-absent .ensures) (y .ends .writes (a .how) refl (x .work) (x .inv .holds) f) (y .refused) (c .step .ensures ∙ ap stepOf (c1 .enum-told .given .1))
 
 run-entire-requires : (t : ℕ) → run-lts.Need-entire-requires (run-uses t) (run-at t) run.Post run-Inv-loop run-μ-loop
 run-entire-requires t c κs =
@@ -475,8 +475,9 @@ run-entire-requires t c κs =
     let a = c19 .args in
     let x = c13 .loop in
     let f = run-fits (a .how) (now (a .table)) (now (a .pool)) (now (a .rows)) (now (a .out)) (now (a .work)) (a .node) (a .repeated) (a .count) (a .i) (a .core) (x .out) (x .work) (x .k) (x .at) (x .n) (x .end) (x .inv) (c19 .pre .1 .1) (c19 .pre .1 .2) (c12 .loop-test .taken) in
-    let y = led-on (a .how) (now (a .table)) (now (a .pool)) (now (a .rows)) (x .out) (x .work) (x .n) (x .end) (x .at) (x .inv .holds) f _ (c7 .descend .ensures) (c3 .d .given .1) in
-    (omega (arith, c19 .pre .0, x .inv .onward, y .0), (y .1 .holds, c19 .pre .1 .1, y .1 .fits))
+    let y = rw (c3 .d .given .1) at (c7 .descend .ensures) in
+    let z = y .onward (a .how) refl (x .work) (x .inv .holds) f in
+    (omega (arith, c19 .pre .0, x .inv .onward, y .behind), (z .holds, c19 .pre .1 .1, z .fits))
 
 run-enum-known-r : (t : ℕ) → run-lts.Need-enum-known-r (run-uses t) (run-at t) run.Post run-Inv-loop run-μ-loop
 run-enum-known-r t c = search needs
@@ -513,8 +514,8 @@ run-returns-2 t c =
     let a = c27 .args in
     let x = c21 .loop in
     let f = run-fits (a .how) (now (a .table)) (now (a .pool)) (now (a .rows)) (now (a .out)) (now (a .work)) (a .node) (a .repeated) (a .count) (a .i) (a .core) (x .out) (x .work) (x .k) (x .at) (x .n) (x .end) (x .inv) (c27 .pre .1 .1) (c27 .pre .1 .2) (c20 .loop-test .taken) in
-    let y = led-on (a .how) (now (a .table)) (now (a .pool)) (now (a .rows)) (x .out) (x .work) (x .n) (x .end) (x .at) (x .inv .holds) f _ (c15 .descend .ensures) (c11 .d .given .1) in
-    run-not (a .how) (now (a .table)) (now (a .pool)) (now (a .rows)) (now (a .out)) (now (a .work)) (a .node) (a .repeated) (a .count) (a .i) (a .core) (x .out) (x .work) (x .k) (x .at) (x .n) (x .end) (x .inv) (c27 .pre .1 .1) (c20 .loop-test .taken) (c19 .may-be-absent .ensures) (y .1 .whole (c7 .entire .ensures)) (c1 .enum-told2 .given .1) (c .again .ensures)
+    let y = (rw (c11 .d .given .1) at (c15 .descend .ensures)) .onward (a .how) refl (x .work) (x .inv .holds) f in
+    run-not (a .how) (now (a .table)) (now (a .pool)) (now (a .rows)) (now (a .out)) (now (a .work)) (a .node) (a .repeated) (a .count) (a .i) (a .core) (x .out) (x .work) (x .k) (x .at) (x .n) (x .end) (x .inv) (c27 .pre .1 .1) (c20 .loop-test .taken) (c19 .may-be-absent .ensures) (y .whole (c7 .entire .ensures)) (c1 .enum-told2 .given .1) (c .again .ensures)
 
 run-sub-k : (t : ℕ) → run-lts.Need-sub-k (run-uses t) (run-at t) run.Post run-Inv-loop run-μ-loop
 run-sub-k t c = search needs
@@ -536,8 +537,8 @@ run-loop-again t c =
     let a = c27 .args in
     let x = c21 .loop in
     let f = run-fits (a .how) (now (a .table)) (now (a .pool)) (now (a .rows)) (now (a .out)) (now (a .work)) (a .node) (a .repeated) (a .count) (a .i) (a .core) (x .out) (x .work) (x .k) (x .at) (x .n) (x .end) (x .inv) (c27 .pre .1 .1) (c27 .pre .1 .2) (c20 .loop-test .taken) in
-    let y = led-on (a .how) (now (a .table)) (now (a .pool)) (now (a .rows)) (x .out) (x .work) (x .n) (x .end) (x .at) (x .inv .holds) f _ (c15 .descend .ensures) (c11 .d .given .1) in
-    run-again (a .how) (now (a .table)) (now (a .pool)) (now (a .rows)) (now (a .out)) (now (a .work)) (a .node) (a .repeated) (a .count) (a .i) (a .core) (x .out) (x .work) (x .k) (x .at) (x .n) (x .end) (x .inv) (c27 .pre .1 .1) (c20 .loop-test .taken) (c19 .may-be-absent .ensures) (y .1 .whole (c7 .entire .ensures)) (c27 .pre .1 .2) (c17 .next-node .ensures) (c7 .entire .kept .1 .1 .1 .0 ∙ c15 .descend .kept .1 .1 .1 .0) (c7 .entire .kept .1 .1 .1 .1 .0) (c1 .r .given .1)
+    let y = (rw (c11 .d .given .1) at (c15 .descend .ensures)) .onward (a .how) refl (x .work) (x .inv .holds) f in
+    run-again (a .how) (now (a .table)) (now (a .pool)) (now (a .rows)) (now (a .out)) (now (a .work)) (a .node) (a .repeated) (a .count) (a .i) (a .core) (x .out) (x .work) (x .k) (x .at) (x .n) (x .end) (x .inv) (c27 .pre .1 .1) (c20 .loop-test .taken) (c19 .may-be-absent .ensures) (y .whole (c7 .entire .ensures)) (c27 .pre .1 .2) (c17 .next-node .ensures) (c7 .entire .kept .1 .1 .1 .0 ∙ c15 .descend .kept .1 .1 .1 .0) (c7 .entire .kept .1 .1 .1 .1 .0) (c1 .r .given .1)
 
 run-same-length-5 : (t : ℕ) → run-lts.Need-same-length-5 (run-uses t) (run-at t) run.Post run-Inv-loop run-μ-loop
 run-same-length-5 t c = c .before .loop .inv .lent

@@ -7,14 +7,15 @@ use lib.ListN.{length}
 use borrow.Author.Tests.{not-true, not-false}
 use borrow.Author.Needs.{needs}
 use Rattle.typed.specs.Nodes.{node-inside}
-use Rattle.pass.specs.Descent.{Alone, Leads}
+use Rattle.pass.specs.declared.descent.Descent.the-variants.{To}
+use Rattle.pass.specs.Descent.{Alone, Descends}
 use Rattle.pass.proofs.Values.{begins}
 use Rattle.pass.proofs.Descents.{leads-self, leads-as, still-stands, leads-again, leads-not}
 use Rattle.pass.proofs.descent.descend.Statement.{statement}
 use Rattle.pass.proofs.descent.descend.Tie as tie
 
 abbrev Inv-loop : tie.InvT-loop
-Inv-loop table rows pool out₀ put omittable node i core absent₀ at₀ n₀ end₀ out absent at n end = (length out ≡ length out₀) × Leads put table pool rows out₀ core i node omittable out end n at absent
+Inv-loop table rows pool out₀ put omittable node i core absent₀ at₀ n₀ end₀ out absent at n end = (length out ≡ length out₀) × Descends put table pool rows out₀ core i node omittable out (To at absent n end)
 
 abbrev μ-loop : tie.MeasureT-loop
 μ-loop table rows pool out₀ put omittable node i core absent₀ at₀ n₀ end₀ out absent at n end = 1025 - at
