@@ -19,7 +19,7 @@ use Rattle.emit.specs.declared.Step.{Step}
 use Rattle.emit.specs.declared.Step.the-variants.{Done, Refused}
 use Rattle.emit.specs.State.{planIn, planOf, slotsOf, Ready, Within, stepOf, Emits, Puts}
 use Rattle.emit.specs.Does.{step-done, step-refused, along, does-ok, does-refuse, puts-done, puts-refused}
-use Rattle.emit.specs.Value.{slotPlace, placeOf, slotTo, movedTo, Placed}
+use Rattle.emit.specs.Value.{slotPlace, placeOf, slotTo, movedTo, HasPlace}
 
 -- ---- the place
 
@@ -47,7 +47,7 @@ module _ (put inline : Bool) (k core : ℕ) (xs : List (ℕ × Reading)) where
   unfolding slotPlace needAt _>>_
   place-new i e p = sym (place-by i e ∙ rw p)
 
-pub placed-slot : (w : List ℕ) (k core : ℕ) {n : ℕ} → placeOf true false k core (slotsOf w) ≡ ok n → (p : Reading) × (lookup k (storeOf w .slots) ≡ some p)
+placed-slot : (w : List ℕ) (k core : ℕ) {n : ℕ} → placeOf true false k core (slotsOf w) ≡ ok n → (p : Reading) × (lookup k (storeOf w .slots) ≡ some p)
 unfolding placeOf slotPlace
 placed-slot w k core {n} e = go (lookup k (storeOf w .slots)) refl
   where
@@ -76,7 +76,7 @@ module _ (w : List ℕ) (k at core : ℕ) where
   moved-slot i e c = moved-by i c (rw (e, slotTo))
 
   -- a key that has a place while bytes are put has a slot
-  pub moved-put : {put inline : Bool} {w′ : List ℕ} → put ≡ true → inline ≡ false → Placed put inline k core w → Changes w w′ (advanced k at) → (core ≡ cond inline at core) × Changes w w′ (movedTo inline k at)
+  pub moved-put : {put inline : Bool} {w′ : List ℕ} → put ≡ true → inline ≡ false → HasPlace put inline k core w → Changes w w′ (advanced k at) → (core ≡ cond inline at core) × Changes w w′ (movedTo inline k at)
   moved-put p i h c = let s = placed-slot w k core (rw (p, i) at (h .found)) in moved-slot i (s .1) c
 
 -- ---- the three together
@@ -143,7 +143,7 @@ pub ready-kept : {pool w w′ : List ℕ} → Ready pool w → Good w′ → sto
 ready-kept g h e = record { small = g .small; good = h; inside = rw e (g .inside) }
 
 module _ (put inline : Bool) (k core : ℕ) {w : List ℕ} {r₁ : Step} (q₁ : r₁ ≡ stepOf (λ n. n) (placeOf put inline k core (slotsOf w))) where
-  pub place-found : {at : ℕ} → r₁ ≡ Done at → Placed put inline k core w
+  pub place-found : {at : ℕ} → r₁ ≡ Done at → HasPlace put inline k core w
   place-found {at} q = record { at = at; found = place-done _ q₁ q }
 
   -- the place goes no further than the core and the slots

@@ -2,7 +2,7 @@
 use mathlib.Core.Path.{_≡_}
 use mathlib.Core.Bool.{Bool}
 use mathlib.Core.List.{List, map}
-use Prim.Native.Nat.{ℕ, _+_, _<_, _≤_}
+use Prim.Native.Nat.{ℕ, _+_, _≤_}
 use lib.Dec.{ltb}
 use lib.ListN.{length}
 use Rattle.format.specs.Answer.{Answer, ok, refuse}
@@ -10,7 +10,7 @@ use Rattle.format.specs.Modes.{inlineEverything}
 use Rattle.format.specs.Table.{Held}
 use Rattle.format.specs.Write.{Event}
 use Rattle.store.specs.Store.{Store}
-use Rattle.store.specs.Words.{word, storeOf, Good}
+use Rattle.store.specs.Words.{storeOf, Good}
 use Rattle.store.specs.Same.{Same}
 use Rattle.plan.specs.Plan.{Plan, putBytes, emitEvent}
 use Rattle.plan.specs.Slots.{under, most}

@@ -9,7 +9,7 @@ ghost use Rattle.format.specs.Write.{littleEndianBytes};
 ghost use Rattle.store.specs.Words.{Good, Changes};
 ghost use Rattle.plan.specs.Plan.{emitBytes};
 ghost use Rattle.emit.specs.State.{slotsOf, Within, stepOf, Emits};
-ghost use Rattle.emit.specs.Value.{placeOf, movedTo, Placed};
+ghost use Rattle.emit.specs.Value.{placeOf, movedTo, HasPlace};
 use super::Step;
 use super::bytes;
 use store::Slot;
@@ -34,7 +34,7 @@ fn place(work: &[u32], put: bool, inline: bool, core: usize, key: usize) -> Step
 
 // The core, or the key's slot, moved on to `at`; returns how far the core goes. While bytes are put, a key whose place was found has a slot.
 fn move_to(work: &mut [u32], put: bool, inline: bool, core: usize, key: usize, at: usize) -> usize
-    requires { ⌜ (Good (now work)) × (key < 32) × (at < 2 ^ 32) × (Placed put inline key core (now work)) ⌝ }
+    requires { ⌜ (Good (now work)) × (key < 32) × (at < 2 ^ 32) × (HasPlace put inline key core (now work)) ⌝ }
     ensures { λ r. ⌜ r ≡ cond inline at core ⌝ }
     ensures { λ _. ⌜ Changes (now (work .entry)) (now (work .exit)) (movedTo inline key at) ⌝ }
 {

@@ -35,7 +35,8 @@ use Rattle.fit.specs.declared.Step.the-variants.{Done, Refused}
 use Rattle.fit.specs.declared.Pass.{Pass}
 use Rattle.fit.specs.Rest.{restOf}
 use Rattle.search.specs.Parts.{part-length}
-use Rattle.fit.specs.Judged.{placeIn, valueIn, truthOf, frontOf}
+use Rattle.rows.specs.Placed.{placeIn}
+use Rattle.fit.specs.Judged.{valueIn, truthOf, frontOf}
 use Rattle.fit.specs.Fits.{textRow, textLeaf, looked, found-there, value-there, text-not, text-stray, text-is, varint-not, varint-is, float-not, float-is, fixed-not, fixed-other, fixed-is}
 use Rattle.fit.specs.Opens.{fitTruth, truth-not, truth-is, fitRecord, record-not, record-other, record-is, value-plain, front-not, front-gone, front-here}
 use Rattle.fit.specs.Writes.{Holds}

@@ -15,7 +15,8 @@ use Rattle.format.specs.Row.{Row, bare, placed, Place, Text, Cell, bytesAt, row
 use Rattle.format.specs.Write.{Event, Rest, next, text, value, unlabelled, isBare, wordIn, textIn, truthIn, littleEndianBytes, fitLeaf}
 use Rattle.laws.specs.Facts.{absurd-some, some-same, need-ok}
 use Rattle.fit.specs.Rest.{restOf, nextOf, next-look}
-use Rattle.fit.specs.Judged.{placeIn, valueIn, truthOf}
+use Rattle.rows.specs.Placed.{placeIn}
+use Rattle.fit.specs.Judged.{valueIn, truthOf}
 
 -- A text that is judged is a STRING, another is BYTES: its row's kind, and what its key holds.
 abbrev pub textRow : Bool → ℕ

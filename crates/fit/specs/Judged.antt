@@ -1,15 +1,13 @@
 -- What a row shows, where it is a row of the kind that is wanted, and what the code answers of it.
 use mathlib.Core.Bool.{Bool, true, false, cond, _&&_}
 use mathlib.Core.Option.{Option, none, some}
-use Prim.Native.Nat.{ℕ, _+_, _^_, _<_, _≤_}
+use Prim.Native.Nat.{ℕ, _^_, _<_}
 use lib.Dec.{eqb}
 use lib.IntN.{ℤ, pos}
 use Rattle.format.specs.Answer.{Answer, ok, refuse}
 use Rattle.format.specs.Row.{Row, bare, placed, Place, Cell, absentRow, nullRow}
 use Rattle.format.specs.Read.{absentLabel, nullLabel}
 use Rattle.format.specs.Write.{isBare, truthIn}
-use Rattle.fit.specs.declared.row.Part.{Part}
-use Rattle.fit.specs.declared.row.Part.the-variants as parts
 use Rattle.fit.specs.declared.row.Word.{Word}
 use Rattle.fit.specs.declared.row.Word.the-variants as words
 use Rattle.fit.specs.declared.row.Truth.{Truth}
@@ -17,12 +15,7 @@ use Rattle.fit.specs.declared.row.Truth.the-variants as truths
 use Rattle.fit.specs.declared.row.Front.{Front}
 use Rattle.fit.specs.declared.row.Front.the-variants as fronts
 
--- The place of a row of this kind, its word, its truth's label; `none` too where looking at it is refused.
-unfoldable pub placeIn : ℕ → Answer (Row Place) → Option Place
-placeIn kind (ok (bare k x)) = none
-placeIn kind (ok (placed k p)) = cond (eqb k kind) (some p) none
-placeIn kind (refuse e j) = none
-
+-- The word of a row of this kind, its truth's label; `none` too where looking at it is refused.
 unfoldable pub valueIn : ℕ → Answer (Row Place) → Option ℕ
 valueIn kind (ok (bare k x)) = cond (eqb k kind) (some x) none
 valueIn kind (ok (placed k p)) = none
@@ -43,14 +36,6 @@ frontOf omittable nullable (ok (placed k p)) = some none
 frontOf omittable nullable (refuse e j) = none
 
 -- The code's answers.
-abbrev pub part : Part → Option Place
-part (parts.At start size) = some (record { start = start; size = size })
-part parts.Not = none
-
-abbrev pub Inside : ℕ → Part → Type 0
-Inside count (parts.At start size) = start + size ≤ count
-Inside count parts.Not = Unit {0}
-
 abbrev pub word : Word → Option ℕ
 word (words.Is a) = some a
 word words.Not = none

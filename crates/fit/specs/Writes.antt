@@ -2,14 +2,13 @@
 use mathlib.Core.Path.{_≡_}
 use mathlib.Core.Bool.{Bool, false}
 use mathlib.Core.List.{List}
-use Prim.Native.Nat.{ℕ, _+_, _*_, _<_, _≤_}
+use Prim.Native.Nat.{ℕ, _+_, _*_, _≤_}
 use Rattle.format.specs.Answer.{Answer, ok, refuse}
 use Rattle.format.specs.Table.{Held}
 use Rattle.format.specs.Row.{rowCount}
 use Rattle.format.specs.Write.{Event, Rest}
 use Rattle.plan.specs.Plan.{Plan, emitEvents}
 use Rattle.emit.specs.State.{planOf, Ready, Within}
-use Rattle.store.specs.Words.{word}
 use Rattle.store.specs.Same.{Same}
 use Rattle.fit.specs.declared.Step.{Step}
 use Rattle.fit.specs.declared.Step.the-variants.{Done, Refused}

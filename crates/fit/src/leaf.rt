@@ -15,10 +15,10 @@ use super::Pass;
 use super::Step;
 use super::next;
 use super::row;
-use super::row::Part;
 use super::row::Word;
 use emit::event;
 use emit::text;
+use rows::Placed;
 use rows::kind;
 use table::nodes::Leaf;
 
@@ -68,7 +68,7 @@ fn text(
     requires { ⌜ (Holds (now pool) (now rows) (now work) i core) × (key < 32) ⌝ }
     ensures { λ r. ⌜ WritesText how numbered key (now (pool .entry)) (now (rows .entry)) (now (out .entry)) (now (work .entry)) core (now (out .exit)) (now (work .exit)) r (fitLeaf key (textLeaf judged) false (restOf (now (pool .entry)) (now (rows .entry)) i)) ⌝ }
 {
-    let Part::At(start, size) = row::part_at(rows, pool, kind_of(judged), i) else {
+    let Placed::At(start, size) = rows::place_at(rows, pool, kind_of(judged), i) else {
         return Step::Refused(42, i as u64);
     };
     if !passes(pool, how.put | !judged, start, start + size) {
@@ -152,7 +152,7 @@ fn fixed(
     requires { ⌜ (Holds (now pool) (now rows) (now work) i core) × (key < 32) ⌝ }
     ensures { λ r. ⌜ WritesValue how (now (pool .entry)) (now (rows .entry)) (now (out .entry)) (now (work .entry)) core (now (out .exit)) (now (work .exit)) r (fitLeaf key (fixed n) labelled (restOf (now (pool .entry)) (now (rows .entry)) i)) ⌝ }
 {
-    let Part::At(start, size) = row::part_at(rows, pool, kind::FIXED, i) else {
+    let Placed::At(start, size) = rows::place_at(rows, pool, kind::FIXED, i) else {
         return Step::Refused(42, i as u64);
     };
     if size != n {

@@ -1,22 +1,15 @@
 // What a row shows, where it is a row of the kind that is wanted.
 ghost use mathlib.Core.Path.{_≡_};
-ghost use mathlib.Core.Bool.{cond, true};
+ghost use mathlib.Core.Bool.{cond};
 ghost use mathlib.Core.Option.{none, some};
 ghost use Prim.Native.Nat.{_≤_};
 ghost use lib.Dec.{eqb};
 ghost use lib.ListN.{length};
-ghost use Rattle.format.specs.Row.{integerRow, isPlace, look as lookOf};
-ghost use Rattle.fit.specs.Judged.{placeIn, valueIn, truthOf, frontOf, part, Inside, word, Small, truth, front};
-use format::ROW_WIDTH;
+ghost use Rattle.format.specs.Row.{integerRow, look as lookOf};
+ghost use Rattle.fit.specs.Judged.{valueIn, truthOf, frontOf, word, Small, truth, front};
 use label::words;
 use rows::Seen;
 use rows::kind;
-
-// Some bytes of the pool.
-pub enum Part {
-    At(usize, usize),
-    Not,
-}
 
 pub enum Word {
     Is(u64),
@@ -34,30 +27,6 @@ pub enum Front {
     Null,
     Here,
     Not,
-}
-
-// A kind that has a place. The row's other kinds are not looked at: texts are what most rows are.
-pub fn part_at(rows: &[u64], pool: &[u8], kind: u64, i: usize) -> Part
-    requires { ⌜ isPlace kind ≡ true ⌝ }
-    ensures { λ r. ⌜ part r ≡ placeIn kind (lookOf (now (rows .entry)) (length (now (pool .entry))) i) ⌝ }
-    ensures { λ r. ⌜ Inside (length (now (pool .entry))) r ⌝ }
-{
-    if rows.len() / ROW_WIDTH <= i {
-        return Part::Not;
-    }
-    let at = ROW_WIDTH * i;
-    if rows[at] != kind {
-        return Part::Not;
-    }
-    let Seen::Place {
-        kind: _,
-        start,
-        size,
-    } = rows::look_at_place(kind, rows[at + 1], rows[at + 2], pool.len() as u64)
-    else {
-        return Part::Not;
-    };
-    Part::At(start, size)
 }
 
 // A kind's own word, if it is the kind that is wanted.

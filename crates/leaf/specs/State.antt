@@ -2,7 +2,7 @@
 use mathlib.Core.Path.{_≡_}
 use mathlib.Core.List.{List}
 use mathlib.Core.Option.{some}
-use Prim.Native.Nat.{ℕ, _+_, _-_, _*_, _/_, _<_, _≤_, min}
+use Prim.Native.Nat.{ℕ, _+_, _-_, _*_, _/_, _≤_, min}
 use lib.ListN.{length}
 use lib.Seq.{sets}
 use Rattle.format.specs.Answer.{Answer, ok, refuse}
@@ -12,7 +12,7 @@ use Rattle.label.specs.declared.cursor.Cursor.{Cursor}
 use Rattle.pieces.specs.Chain.{waitingOf}
 use Rattle.pieces.specs.Pieces.{readingOf, Inside, Blocks}
 use Rattle.store.specs.Store.{lookup}
-use Rattle.store.specs.Words.{word, storeOf, Good}
+use Rattle.store.specs.Words.{storeOf, Good}
 use Rattle.store.specs.Same.{Same}
 use Rattle.leaf.specs.declared.Step.{Step}
 use Rattle.leaf.specs.declared.Step.the-variants.{Done, Refused}

@@ -8,8 +8,9 @@ use native.Mathlib.Omega.{arith}
 use lib.Dec.{ltb, leb, eqb}
 use lib.ListN.{getD}
 use borrow.Author.Tests.{lt-ltb, le-ltb, le-leb, lt-leb, leb-true}
-use Rattle.format.specs.Answer.{Answer, ok, refuse, _>>=_, _>>_, needAt, need, orRefuse}
+use Rattle.format.specs.Answer.{ok, refuse, _>>=_, _>>_, needAt, orRefuse}
 use Rattle.format.specs.Row.{Row, bare, placed, Place, trueRow, stringRow, fixedRow, arrayRow, isPlace, isInside, fromWords, rowWidth, rowCount, rowAt, look}
+use Rattle.laws.specs.Facts.{need-ok}
 use Rattle.rows.specs.Seen.{inside, lookAtWords, isSome}
 
 -- what is there on a test
@@ -91,21 +92,15 @@ module _ (ws : List ℕ) (count i : ℕ) where
   unfolding look rowAt _>>_ needAt lookAtWords inside
   look-row h = simp (lt-ltb i (rowCount ws) h)
 
--- a chain of answers that succeeds has passed each of its tests
-need-passed : {A : Type 0} (t : Bool) (r : ℕ) (m : Answer A) {a : A} → (need t r >> m) ≡ ok a → (t ≡ true) × (m ≡ ok a)
-unfolding _>>_ needAt
-need-passed true r m e = (refl, e)
-need-passed false r m e = absurd (let z : _≡_ {A = ℕ} 0 1 = cc in omega arith)
-
 row-passed : (count : ℕ) (o : Option (Row Place)) {r : Row Place} → (orRefuse o 51 0 >>= inside count) ≡ ok r → isInside count r ≡ true
 unfolding _>>=_ orRefuse inside
 row-passed count none e = absurd (let z : _≡_ {A = ℕ} 0 1 = cc in omega arith)
 row-passed count (some s) {r} e =
-    let (t, f) = need-passed (isInside count s) 51 (ok s) e in
+    let (t, f) = need-ok (isInside count s) 51 0 (ok s) e in
     let g : s ≡ r = cc in
     ap (isInside count) (sym g) ∙ t
 
 pub look-inside : (ws : List ℕ) (count i : ℕ) {kind : ℕ} {p : Place} → look ws count i ≡ ok (placed kind p) → p .start + p .size ≤ count
 unfolding look isInside inside
 look-inside ws count i {kind} {p} e =
-    leb-true (p .start + p .size) count (row-passed count (rowAt ws i) (need-passed (ltb i (rowCount ws)) 50 _ e .1))
+    leb-true (p .start + p .size) count (row-passed count (rowAt ws i) (need-ok (ltb i (rowCount ws)) 50 0 _ e .1))

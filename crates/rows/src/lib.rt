@@ -1,11 +1,13 @@
 // Rows in lent buffers: putting one, looking at one, and the part of the lent bytes that one names.
 ghost use mathlib.Core.Path.{_≡_};
+ghost use mathlib.Core.Bool.{true};
 ghost use mathlib.Core.List.{[], _∷_};
 ghost use Prim.Native.Nat.{_+_, _*_, _≤_};
 ghost use lib.ListN.{length};
 ghost use lib.Seq.{sets};
-ghost use Rattle.format.specs.Row.{rowWidth, placed, fromWords, look as lookOf, part as partOf, floatOf};
+ghost use Rattle.format.specs.Row.{rowWidth, placed, isPlace, fromWords, look as lookOf, part as partOf, floatOf};
 ghost use Rattle.rows.specs.Seen.{seen, rightCase, inside, lookAtWords, isSome};
+ghost use Rattle.rows.specs.Placed.{placeIn, place, Inside};
 use format::ROW_WIDTH;
 use label::words;
 
@@ -37,6 +39,12 @@ pub enum Seen {
     },
 }
 
+// Some of the lent bytes.
+pub enum Placed {
+    At(usize, usize),
+    Not,
+}
+
 // Puts row n.
 pub fn put_row(rows: &mut [u64], n: usize, kind: u64, a: u64, b: u64)
     requires { ⌜ rowWidth * n + rowWidth ≤ length (now rows) ⌝ }
@@ -58,6 +66,30 @@ pub fn look(rows: &[u64], bytes: &[u8], i: usize) -> Seen
     }
     let at = ROW_WIDTH * i;
     look_at_words(rows[at], rows[at + 1], rows[at + 2], bytes.len() as u64)
+}
+
+// The place of row i, if it is a row of this kind, one that has a place. No other kind is looked at: most rows are texts.
+pub fn place_at(rows: &[u64], bytes: &[u8], kind: u64, i: usize) -> Placed
+    requires { ⌜ isPlace kind ≡ true ⌝ }
+    ensures { λ r. ⌜ place r ≡ placeIn kind (lookOf (now (rows .entry)) (length (now (bytes .entry))) i) ⌝ }
+    ensures { λ r. ⌜ Inside (length (now (bytes .entry))) r ⌝ }
+{
+    if rows.len() / ROW_WIDTH <= i {
+        return Placed::Not;
+    }
+    let at = ROW_WIDTH * i;
+    if rows[at] != kind {
+        return Placed::Not;
+    }
+    let Seen::Place {
+        kind: _,
+        start,
+        size,
+    } = look_at_place(kind, rows[at + 1], rows[at + 2], bytes.len() as u64)
+    else {
+        return Placed::Not;
+    };
+    Placed::At(start, size)
 }
 
 // The part of bytes that row i names: empty where the row isn't there, is no place or points outside.
@@ -109,8 +141,8 @@ fn is_row(kind: u64, a: u64, b: u64) -> bool
     (kind <= kind::ARRAY) & (b == 0)
 }
 
-// The row of a kind that has a place. A sum of two words could wrap, so the start comes off the count.
-pub fn look_at_place(kind: u64, a: u64, b: u64, count: u64) -> Seen
+// A sum of two words could wrap, so the start comes off the count.
+fn look_at_place(kind: u64, a: u64, b: u64, count: u64) -> Seen
     ensures { λ r. ⌜ seen r ≡ inside count (placed kind (record { start = a; size = b })) ⌝ }
     ensures { λ r. ⌜ rightCase r ⌝ }
 {

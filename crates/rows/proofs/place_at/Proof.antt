@@ -1,13 +1,13 @@
--- `fit::row::part_at` meets its contract.
-use mathlib.Core.Path.{sym, ap, _∙_}
+-- `rows::place_at` meets its contract.
+use mathlib.Core.Path.{sym, ap}
 use denote.Ref.{now}
 use lib.ListN.{length}
 use borrow.Author.Needs.{needs}
-use Rattle.rows.proofs.Laws.{look-beyond, look-inside}
-use Rattle.fit.specs.Judged.{placeIn}
-use Rattle.fit.proofs.Rows.{row-other, row-place, place-kind, part-not, part-is, shown-at}
-use Rattle.fit.proofs.row.part_at.Statement.{statement}
-use Rattle.fit.proofs.row.part_at.Tie as tie
+use Rattle.rows.specs.Placed.{placeIn}
+use Rattle.rows.proofs.Laws.{look-beyond}
+use Rattle.rows.proofs.Places.{row-other, row-place, place-kind, shown-not, shown-at}
+use Rattle.rows.proofs.place_at.Statement.{statement}
+use Rattle.rows.proofs.place_at.Tie as tie
 
 returns : tie.Need-returns
 unfolding placeIn
@@ -23,7 +23,7 @@ shared-slice-read-if2 : tie.Need-shared-slice-read-if2
 shared-slice-read-if2 c = search needs
 
 returns-2 : tie.Need-returns-2
-returns-2 c = (row-other _ _ _ (c .before .before .if1 .left) (c .if2 .taken), tt)
+returns-2 c = (row-other _ _ _ (c .before .before .if1 .left) _ (c .if2 .taken), tt)
 
 add-look-at-place : tie.Need-add-look-at-place
 add-look-at-place c = search needs
@@ -56,8 +56,8 @@ returns-3 c =
     let c6 = c4 .before .before in
     let c9 = c6 .before .before .before in
     let a = c9 .args in
-    let e = row-place (now (a .rows)) (length (now (a .pool))) (a .i) (c6 .if1 .left) (c1 .look-at-place .result) (c9 .pre) (c4 .if2 .left) (c1 .look-at-place .ensures .0) in
-    (part-not (c1 .look-at-place .result) e (a .kind) (c .match .keys2), tt)
+    let e = row-place (now (a .rows)) (length (now (a .bytes))) (a .i) (c6 .if1 .left) (a .kind) (c1 .look-at-place .result) (c9 .pre) (c4 .if2 .left) (c1 .look-at-place .ensures .0) in
+    (shown-not _ _ _ (c6 .if1 .left) (a .kind) (c1 .look-at-place .result) e (c .match .keys2), tt)
 
 returns-4 : tie.Need-returns-4
 returns-4 c =
@@ -67,12 +67,11 @@ returns-4 c =
     let c8 = c6 .before .before in
     let c11 = c8 .before .before .before in
     let a = c11 .args in
-    let e = row-place (now (a .rows)) (length (now (a .pool))) (a .i) (c8 .if1 .left) (c3 .look-at-place .result) (c11 .pre) (c6 .if2 .left) (c3 .look-at-place .ensures .0) in
-    let at = shown-at (c3 .look-at-place .result) e (a .kind) (c1 .start .given .1) in
-    (part-is (c3 .look-at-place .result) e (a .kind) (c1 .start .given .1) (place-kind _ _ _ (c3 .look-at-place .result) (c1 .start .given .1) (c3 .look-at-place .ensures .0)), look-inside (now (a .rows)) (length (now (a .pool))) (a .i) at)
+    let e = row-place (now (a .rows)) (length (now (a .bytes))) (a .i) (c8 .if1 .left) (a .kind) (c3 .look-at-place .result) (c11 .pre) (c6 .if2 .left) (c3 .look-at-place .ensures .0) in
+    shown-at _ _ _ (c8 .if1 .left) (a .kind) (c3 .look-at-place .result) e (c1 .start .given .1) (place-kind _ _ _ (c3 .look-at-place .result) (c1 .start .given .1) (c3 .look-at-place .ensures .0))
 
-pub part-at-spec : {M : Type 1} → statement M
-part-at-spec =
+pub place-at-spec : {M : Type 1} → statement M
+place-at-spec =
     tie.close
     (tie.spec
     returns
