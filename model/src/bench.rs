@@ -4,6 +4,7 @@ use std::hint::black_box;
 
 use crate::columns::{commas, Table};
 use crate::gen::fixed::table_s;
+use crate::hostile::{self, List};
 use crate::scenes::{self, Scene};
 use crate::table::{self, file, Node};
 use crate::write::{self, Search};
@@ -22,6 +23,7 @@ pub fn run() {
     // would, or would not, fetch their memory anew from the system, as it happens to lie.
     drop(black_box(vec![1u8; 16 << 20]));
     let pairs = scenes::pairs();
+    let small = scenes::small();
     let tables = scenes::tables();
     let files: Vec<Vec<u8>> = tables.iter().flatten().map(|(_, t)| file(t)).collect();
     let mut calls = Vec::new();
@@ -31,6 +33,7 @@ pub fn run() {
         calls.extend(scenes.flat_map(|scene| write_calls(scene, modes)));
     }
     calls.extend(files.iter().flat_map(|file| check_calls(file)));
+    calls.extend(small.iter().flat_map(|scene| write_calls(scene, 0)));
     let mut times = Times(best(calls).into_iter());
 
     println!(
@@ -39,44 +42,54 @@ pub fn run() {
     reading(&pairs, &mut times);
     writing(&pairs, &mut times);
     checking(&tables, &mut times);
+    whole_calls(&small, &mut times);
 }
 
-/// One call on each of the rows that are worst for a search: with the hash table, and the library. Each line is printed
-/// as soon as it is known.
+/// One call on each of the lists that are worst for the writer: with the hash table, and the library. Each line is
+/// printed as soon as it is known.
 pub fn hostile() {
-    println!("Processor time of one call, in ms: places of 60,000 bytes that differ only far behind; the answer is 43.\n");
-    println!("| {:<7} | {:>7} | {:>9} |", "places", "hash", "library");
     println!(
-        "|{}:|{}:|{}:|",
-        "-".repeat(8),
-        "-".repeat(8),
-        "-".repeat(10)
+        "Processor time of one call that writes, in ms. \
+         Lists of 60,000 bytes each and of many sizes are refused with 43 after the first pass.\n"
     );
-    for places in [256, 512, 4_096, 8_191] {
-        let [hash, library] = hostile_times(places);
-        let places = commas(places);
-        println!(
-            "| {places:>7} | {:>7.1} | {:>9.1} |",
-            hash * 1e3,
-            library * 1e3
-        );
+    println!(
+        "| {:>5} | {:<46} | {:>7} | {:>7} |",
+        "rows", "list", "hash", "library"
+    );
+    println!(
+        "|{}:|{}|{}:|{}:|",
+        "-".repeat(6),
+        "-".repeat(48),
+        "-".repeat(8),
+        "-".repeat(8)
+    );
+    for list in hostile::lists() {
+        let list = list();
+        let [hash, library] = hostile_times(&list).map(|time| time * 1e3);
+        let (rows, name) = (commas(list.rows.len() / 3), list.name);
+        println!("| {rows:>5} | {name:<46} | {hash:>7.1} | {library:>7.1} |");
     }
     println!();
 }
 
-fn hostile_times(places: usize) -> [f64; 2] {
-    let (rows, pool) = scenes::hostile(places);
+fn hostile_times(list: &List) -> [f64; 2] {
+    let List { rows, pool, .. } = list;
     let table = file(&table_s());
-    let (mut out, mut work) = (vec![0; MAX_BYTES], Work::new());
+    let [mut out, mut lent] = std::array::from_fn(|_| vec![0; MAX_BYTES]);
+    let mut work = Work::new();
     let start = clock::now();
-    let ours = write::write(&table, 0, &rows, &pool, &mut out, WORK_WORDS);
+    let ours = write::write(&table, 0, rows, pool, &mut out, WORK_WORDS);
     let hash = clock::now() - start;
     let start = clock::now();
-    let theirs = ffi::write(&table, 0, &rows, &pool, &mut out, &mut work.0);
+    let theirs = ffi::write(&table, 0, rows, pool, &mut lent, &mut work.0);
     let library = clock::now() - start;
-    assert_eq!(ours, Answer::refused(43, 0));
-    assert!(theirs.is_none_or(|theirs| theirs == ours));
-    [hash, theirs.map_or(f64::NAN, |_| library)]
+    assert_eq!(ours.number, list.number, "{}", list.name);
+    let Some(theirs) = theirs else {
+        return [hash, f64::NAN];
+    };
+    assert_eq!(theirs, ours, "{}", list.name);
+    assert!(lent == out, "{}", list.name);
+    [hash, library]
 }
 
 /// The model bare and with work to zero, and the library.
@@ -278,6 +291,19 @@ fn without_search(pairs: &[[Scene; 2]], searching: &[[[f64; 4]; 2]], plain: &[[[
             line.share(search(3) / with[3]);
             before = without;
         }
+    }
+    table.print();
+}
+
+/// Small messages, where what a call does once is most of its time.
+fn whole_calls(scenes: &[Scene], times: &mut Times) {
+    let mut table =
+        Table::new("writing, ns for a call | rows | bare | hash | library | ratio | to bare");
+    for scene in scenes {
+        let [bare, hash, _, library] = times.next();
+        let mut line = table.call(&scene.name, scene.count());
+        line.each(&[bare, hash, library]);
+        line.ratios(&[library / hash, library / bare]);
     }
     table.print();
 }

@@ -19,6 +19,12 @@ impl Table {
         }
     }
 
+    /// A line whose times are those of whole calls.
+    pub fn call(&mut self, name: &str, rows: usize) -> Line<'_> {
+        let line = self.line(name, rows);
+        Line { count: 1, ..line }
+    }
+
     pub fn print(&self) {
         let columns = 0..self.lines[0].len();
         let widths: Vec<usize> = columns

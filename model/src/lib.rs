@@ -8,6 +8,7 @@ pub mod columns;
 pub mod compare;
 pub mod ffi;
 pub mod gen;
+pub mod hostile;
 pub mod label;
 pub mod night;
 pub mod read;

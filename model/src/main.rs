@@ -18,7 +18,7 @@ model compare --seed S --count N [--kinds TRWLP]         generated cases through
     [--trace yes]                                        print each case before its call
 model compare --file FILE                                stored cases through libargo.a
 model bench                                              time the model, and libargo.a if linked
-model bench --hostile                                    the same on rows that are worst for a search: may take minutes
+model bench --hostile                                    one call each on rows that are worst for the writer: some seconds
 model night DIR N                                        a night of N jobs: DIR/night-N.table, .message and .json";
 
 fn main() -> ExitCode {

@@ -55,6 +55,23 @@ pub fn pairs() -> Vec<[Scene; 2]> {
     ]
 }
 
+/// Messages of a few rows.
+pub fn small() -> Vec<Scene> {
+    let text = [rows::ARRAY, 1, 0, rows::STRING, 0, 8].to_vec();
+    let (job, pool) = Night::new(1).rows();
+    vec![
+        array("an empty array", 0, 0, |_| String::new()),
+        Scene::new(
+            "one text of 8 bytes",
+            &table_s(),
+            text,
+            b"unit/net".to_vec(),
+        ),
+        array("ten different texts", 10, 0, |i| format!("{i:06}")),
+        Scene::new("a night of one job", &Night::nodes(), job, pool),
+    ]
+}
+
 /// Tables to check: those of the trees above; a pair of n and 2n nodes; some others.
 pub fn tables() -> Vec<Vec<(&'static str, Vec<Node>)>> {
     vec![
@@ -156,14 +173,4 @@ fn twos(levels: usize) -> Scene {
     }
     let name = format!("arrays of two, {levels} deep");
     Scene::new(&name, &nodes, list, Vec::new())
-}
-
-/// Rows that no message holds: long places in a pool of one letter with another at 60,000, so that two of them differ
-/// only far behind. At most 4,096 are different, so that the answer is 43.
-pub fn hostile(places: usize) -> (Vec<u64>, Vec<u8>) {
-    let mut pool = vec![b'a'; MAX_BYTES];
-    pool[60_000] = b'b';
-    let mut list = vec![rows::ARRAY, places as u64, 0];
-    list.extend((0..places as u64).flat_map(|i| [rows::STRING, i % 4_096, 60_000]));
-    (list, pool)
 }

@@ -13,8 +13,9 @@ use Rattle.format.specs.Label.{label, labelSize}
 use Rattle.format.specs.Modes.{inlineEverything, header}
 use Rattle.format.specs.Read.{Reading, nth}
 use Rattle.label.specs.Laws.{framed}
+use Rattle.store.specs.Words as words
 use Rattle.store.specs.Store.{put, advanced, unnumbered}
-use Rattle.store.specs.Words.{storeOf, Good, Changes}
+use Rattle.chains.specs.Words.{storeOf, Good, Changes}
 use Rattle.store.specs.Laws.{drop-nth}
 use Rattle.store.specs.Same.{Same, same-self, same-then}
 use Rattle.laws.specs.Facts.{absurd-some, some-same}
@@ -30,11 +31,13 @@ nth-under f (x ∷ xs) zero e = ap (λ y. some (y .0, f (y .1))) (some-same e)
 nth-under f (x ∷ xs) (suc i) e = nth-under f xs i e
 
 module _ (w : List ℕ) where
-  pub slot-there : (i : ℕ) {k : ℕ} {p : Reading} → nth (storeOf w .slots) i ≡ some (k, p) → nth (slotsOf w) i ≡ some (k, p .at)
-  slot-there i e = nth-under (λ p. p .at) (storeOf w .slots) i e
+  pub slot-there : (i : ℕ) {k : ℕ} {p : Reading} → nth (words.slotsOf w) i ≡ some (k, p) → nth (slotsOf w) i ≡ some (k, p .at)
+  unfolding storeOf
+  slot-there i e = nth-under (λ p. p .at) (words.slotsOf w) i e
 
-  pub slots-length : length (slotsOf w) ≡ length (storeOf w .slots)
-  slots-length = length-map (storeOf w .slots) _
+  pub slots-length : length (slotsOf w) ≡ length (words.slotsOf w)
+  unfolding storeOf
+  slots-length = length-map (words.slotsOf w) _
 
 -- ---- how long they are
 

@@ -4,7 +4,7 @@ ghost use Prim.Native.Nat.{_+_, _<_, _≤_, _^_};
 ghost use lib.ListN.{length};
 ghost use Rattle.format.specs.Modes.{inlineEverything};
 ghost use Rattle.label.specs.Laws.{framed as framedOf};
-ghost use Rattle.store.specs.Words.{Good};
+ghost use Rattle.chains.specs.Words.{Good};
 ghost use Rattle.plan.specs.Layout.{blockSpace, messageLength};
 ghost use Rattle.plan.specs.Slots.{Apart};
 ghost use Rattle.emit.specs.State.{slotsOf};

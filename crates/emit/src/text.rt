@@ -8,7 +8,7 @@ ghost use lib.ListN.{length, getD};
 ghost use Rattle.format.specs.Row.{bytesAt};
 ghost use Rattle.format.specs.Read.{numberLabel};
 ghost use Rattle.format.specs.Write.{text, choose as chooseOf};
-ghost use Rattle.store.specs.Words.{storeOf, Good, Changes};
+ghost use Rattle.chains.specs.Words.{storeOf, Good, Changes};
 ghost use Rattle.plan.specs.Plan.{emitChoice, emitEvent};
 ghost use Rattle.search.specs.Search.{number as numberIn, textsOf, Inside, Small, Kept, Keeps};
 ghost use Rattle.emit.specs.State.{planOf, Ready, Within};
@@ -51,7 +51,7 @@ fn keep(work: &mut [u32], numbered: bool, key: usize, first: usize, second: usiz
         store::set_rest(work, 1, 0);
         return;
     }
-    store::add(work, key, first, second);
+    chains::add(work, key, first, second);
 }
 
 // Writes the text out: its length in the core, and its bytes. If it takes a number, it is kept by the words `first` and `second`.

@@ -6,7 +6,7 @@ ghost use lib.ListN.{length};
 ghost use Rattle.format.specs.Label.{label as labelOf, integer};
 ghost use Rattle.format.specs.Row.{bytesAt};
 ghost use Rattle.format.specs.Write.{littleEndianBytes};
-ghost use Rattle.store.specs.Words.{Good, Changes};
+ghost use Rattle.chains.specs.Words.{Good, Changes};
 ghost use Rattle.plan.specs.Plan.{emitBytes};
 ghost use Rattle.emit.specs.State.{slotsOf, Within, stepOf, Emits};
 ghost use Rattle.emit.specs.Value.{placeOf, movedTo, HasPlace};

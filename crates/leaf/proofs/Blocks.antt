@@ -16,9 +16,12 @@ use Rattle.pieces.specs.declared.Given.the-variants.{Block, Nothing}
 use Rattle.pieces.specs.Chain.{waitingOf}
 use Rattle.pieces.specs.Pieces.{readingOf, Inside, Blocks, blocksOf, Left, Gave}
 use Rattle.store.specs.Store.{Store, lookup, put, opened, advanced, rested}
-use Rattle.store.specs.Words.{storeOf, Good, Changes}
+use Rattle.store.specs.Words.{restOf, GoodSlots, Moved}
 use Rattle.store.specs.Laws.{move-put, lookup-put, lookup-append, lookup-append-other, lookup-change-other}
 use Rattle.store.specs.Same.{Same, same-then}
+use Rattle.store.specs.Keeping.{moved}
+use Rattle.pages.specs.Words.{storeOf, Changes}
+use Rattle.pages.specs.Laws.{keeping}
 use Rattle.leaf.specs.State.{cursorOf, Ready, stateOf, Took, Takes}
 use Rattle.leaf.specs.Takes.{took-along, took-refuses, took-ends, took-is, took-ready, then-takes, then-takes-not}
 use Rattle.leaf.specs.Touch.{given, touch, putBlock, touch-has, at-key}
@@ -33,15 +36,15 @@ some-is {x = x} {y} e h = Option·some-injective x y (sym e ∙ h)
 -- ---- a block moved on
 
 module _ {w w′ : List ℕ} (k : ℕ) (p : Reading) (q : Cursor) (e : lookup k (storeOf w .slots) ≡ some p) (z : q .end ≡ p .end) (d : Changes w w′ (advanced k (q .at))) where
-  moved : storeOf w′ .slots ≡ put k (readingOf q) (storeOf w .slots)
-  moved =
+  slots-put : storeOf w′ .slots ≡ put k (readingOf q) (storeOf w .slots)
+  slots-put =
       let y : _≡_ {A = Reading} (record { at = q .at; end = p .end }) (readingOf q) = rw z in
       ap (λ s. s .slots) (d .store) ∙ move-put k (q .at) (storeOf w .slots) e ∙ ap (λ r. put k r (storeOf w .slots)) y
 
   slot-moved : (m : List ℕ) → Ready m w → Inside m q → (j : ℕ) (r : Reading) → lookup j (storeOf w′ .slots) ≡ some r → Inside m (cursorOf r)
   slot-moved m g i j r h = by-eq j k
-      (λ y. subst (λ x. Inside m (cursorOf x)) (some-is (lookup-put k (storeOf w .slots) (readingOf q) e) (sym (ap (λ l. lookup k l) moved) ∙ rw y at h)) i)
-      (λ n. g .slots j r (sym (lookup-change-other k j n (λ y. readingOf q) (storeOf w .slots)) ∙ sym (ap (λ l. lookup j l) moved) ∙ h))
+      (λ y. subst (λ x. Inside m (cursorOf x)) (some-is (lookup-put k (storeOf w .slots) (readingOf q) e) (sym (ap (λ l. lookup k l) slots-put) ∙ rw y at h)) i)
+      (λ n. g .slots j r (sym (lookup-change-other k j n (λ y. readingOf q) (storeOf w .slots)) ∙ sym (ap (λ l. lookup j l) slots-put) ∙ h))
 
   ready-moved : (m : List ℕ) → Ready m w → Inside m q → Ready m w′
   ready-moved m g i = record {
@@ -54,7 +57,7 @@ module _ {w w′ : List ℕ} (k : ℕ) (p : Reading) (q : Cursor) (e : lookup k 
   state-moved : (m : List ℕ) (most n : ℕ) (c : Cursor) → stateOf m most w′ c n ≡ putBlock (inMessage m) k (readingOf q) (stateOf m most w c n)
   state-moved m most n c =
       ap (λ s. record { core = readingOf c; blocks = storeOf w′ .slots; waiting = waitingOf m (s .rest .at) (s .rest .end); literals = s .literals; rows = most - n }) (d .store)
-      ∙ ap (λ bs. record { core = readingOf c; blocks = bs; waiting = waitingOf m (storeOf w .rest .at) (storeOf w .rest .end); literals = storeOf w .literals; rows = most - n }) moved
+      ∙ ap (λ bs. record { core = readingOf c; blocks = bs; waiting = waitingOf m (storeOf w .rest .at) (storeOf w .rest .end); literals = storeOf w .literals; rows = most - n }) slots-put
 
 -- ---- what is read at a key
 
@@ -80,15 +83,16 @@ module _ {X : Type 0} (m : List ℕ) (k : ℕ) (f : Reading → Answer (X × Rea
     unfolding _>>=_
     block-not e q h = record { took = λ most n. took-along (at-key (inMessage m) k f (stateOf m most w c n)) (then-takes _ (touched most n) _ (ap (givenOf c) q) (took-along (rw h) (took-refuses e))) }
 
-    pub block-takes : {w₂ : List ℕ} {p : Cursor} (x : X) (next : Cursor) → r ≡ Block p → f (readingOf p) ≡ ok (x, readingOf next) → next .end ≡ p .end → Inside m next → Changes w₁ w₂ (advanced k (next .at))
+    pub block-takes : {w₂ : List ℕ} {p : Cursor} (x : X) (next : Cursor) → r ≡ Block p → f (readingOf p) ≡ ok (x, readingOf next) → next .end ≡ p .end → Inside m next → Moved w₁ w₂ (advanced k (next .at))
         → Takes m w w₂ c (ok (x, c)) (atKey (inMessage m) false k f)
     unfolding _>>=_
-    block-takes {w₂} {p} x next q h z y d = record { took = λ most n. took-along (at-key (inMessage m) k f (stateOf m most w c n)) (then-takes _ (touched most n) _ (ap (givenOf c) q) (rw h (after most n))) }
+    block-takes {w₂} {p} x next q h z y v = record { took = λ most n. took-along (at-key (inMessage m) k f (stateOf m most w c n)) (then-takes _ (touched most n) _ (ap (givenOf c) q) (rw h (after most n))) }
       where
         after : (most n : ℕ) → Took m most w₁ w₂ n (ok (x, c)) (ok (x, putBlock (inMessage m) k (readingOf next) (stateOf m most w₁ c n)))
         after most n =
             let t = took-is _ (touched most n) (ap (givenOf c) q) in
             let g = took-ready _ (touched most n) (ap (givenOf c) q) in
+            let d = moved keeping (g .good) v in
             let has : lookup k (storeOf w₁ .slots) ≡ some (readingOf p) = touch-has (inMessage m) k (stateOf m most w c n) (stateOf m most w₁ c n) (readingOf p) t in
             record { answer = refl; left = record { state = state-moved k (readingOf p) next has z d m most n c; ready = ready-moved k (readingOf p) next has z d m g y; inside = i; same = same-words d } }
 
@@ -134,16 +138,21 @@ inside-small h i = (omega (arith, i .ordered, i .inside), omega (arith, i .insid
 pub gave-left : {m : List ℕ} {at end : ℕ} {r : Given} {p : Cursor} → Gave m at end r → r ≡ Block p → Inside m p × Blocks m (p .end) end
 gave-left {m} {end = end} y q = subst (λ (x : Given). Left m end x) q (y .left)
 
-module _ {m w : List ℕ} {at end : ℕ} (z : _≡_ {A = Reading} (record { at = at; end = end }) (storeOf w .rest)) where
+module _ {m w : List ℕ} {at end : ℕ} (z : _≡_ {A = Reading} (record { at = at; end = end }) (restOf w)) where
   pub rest-blocks : Ready m w → Blocks m at end
+  unfolding storeOf
   rest-blocks g = subst (λ (r : Reading). Blocks m (r .at) (r .end)) (sym z) (g .blocks)
 
   module _ {r : Given} (k : ℕ) (e : lookup k (storeOf w .slots) ≡ none) (y : Gave m at end r) where
     pub gave-none : {w₁ : List ℕ} → r ≡ Nothing → Opened m k w w₁ Nothing
+    unfolding storeOf
     gave-none q = block-missing k e (sym (ap (blocksOf m end) q) ∙ y .is ∙ ap (λ (p : Reading). waitingOf m (p .at) (p .end)) z)
 
-    pub gave-first : {p : Cursor} {w₁ w₂ : List ℕ} → r ≡ Block p → Ready m w → Changes w w₁ (opened k (readingOf p)) → Changes w₁ w₂ (rested (record { at = p .end; end = end })) → Opened m k w w₂ (Block p)
-    gave-first {p} {w₁} {w₂} q g d d₁ =
+    pub gave-first : {p : Cursor} {w₁ w₂ : List ℕ} → r ≡ Block p → Ready m w → Moved w w₁ (opened k (readingOf p)) → Moved w₁ w₂ (rested (record { at = p .end; end = end })) → Opened m k w w₂ (Block p)
+    unfolding storeOf
+    gave-first {p} {w₁} {w₂} q g v v₁ =
+        let d = moved keeping (g .good) v in
+        let d₁ = moved keeping (d .good) v₁ in
         let x : end ≡ storeOf w .rest .end = ap (λ (a : Reading). a .end) z in
         let (i, b) = gave-left y q in
         let h : readingOf p ∷ waitingOf m (p .end) (storeOf w .rest .end) ≡ waitingOf m (storeOf w .rest .at) (storeOf w .rest .end) =
@@ -154,8 +163,8 @@ module _ {m w w₁ : List ℕ} {k : ℕ} {r : Given} {p : Cursor} (o : Opened m 
   pub opened-inside : Inside m p
   opened-inside = subst (λ (x : Given). GivenIn m x) q (o .inside)
 
-  pub opened-good : (c : Cursor) → Inside m c → Good w₁
-  opened-good c i = took-ready _ (o .takes c i .took 0 0) (ap (givenOf c) q) .good
+  pub opened-good : (c : Cursor) → Inside m c → GoodSlots w₁
+  opened-good c i = took-ready _ (o .takes c i .took 0 0) (ap (givenOf c) q) .good .slots
 
 -- where the values of keys stand
 pub takes-in : {X : Type 0} {m w w′ : List ℕ} {c : Cursor} {r : Answer (X × Cursor)} {b b′ : Bool} (k : ℕ) (f : Reading → Answer (X × Reading)) → b ≡ b′

@@ -18,8 +18,10 @@ use Rattle.format.specs.Read.{inMessage, State, nth, total, isRight, isNumbered
 use Rattle.label.specs.declared.cursor.Cursor.{Cursor}
 use Rattle.pieces.specs.Pieces.{Inside}
 use Rattle.store.specs.Store.{added}
-use Rattle.store.specs.Words.{storeOf, Good, Changes}
+use Rattle.store.specs.Words.{allOf}
 use Rattle.store.specs.Laws.{nth-beyond}
+use Rattle.pages.specs.Words.{storeOf, Good, Changes}
+use Rattle.pages.specs.Laws.{total-is}
 use Rattle.table.specs.declared.nodes.Leaf as code
 use Rattle.leaf.specs.Meaning.{heldLeaf}
 use Rattle.leaf.specs.State.{Ready, Takes}
@@ -27,6 +29,9 @@ use Rattle.leaf.specs.Takes.{took-refuses, took-ends, took-ready, took-i
 use Rattle.leaf.specs.Contracts.{textOf}
 use Rattle.leaf.proofs.Blocks.{same-words}
 use Rattle.leaf.proofs.Reading.{take-drop}
+
+pub takes-good : {X : Type 0} {m w w₁ : List ℕ} {c c₁ : Cursor} {x : X} {r : Answer (X × Cursor)} {f : State (inMessage m) → Answer (X × State (inMessage m))} → Takes m w w₁ c r f → r ≡ ok (x, c₁) → Good w₁
+takes-good t q = took-ready _ (t .took 0 0) q .good
 
 -- one literal more changes nothing else
 ready-added : {m w w′ : List ℕ} (key : ℕ) (v : Place) → Ready m w → Changes w w′ (added key v) → Ready m w′
@@ -54,21 +59,22 @@ module _ (m : List ℕ) (modes key : ℕ) (h : Held) (size : ℕ) (c : Cursor) {
       literal-plain e₁ = record { took = λ most n. then-takes _ (t .took most n) _ q (rw (← y, e, ← y₁, e₁) (took-ends v c₁ (took-ready _ (t .took most n) q) (took-inside _ (t .took most n) q))) }
 
       module _ (e₁ : numbered ≡ true) where
-        pub literal-32 : {w₂ : List ℕ} → 4096 ≤ total (storeOf w₁ .literals) → Takes m w w₂ c (refuse 32 0) read
-        unfolding readText fromKey needAt _>>_ addLiteral _>>=_
-        literal-32 b = record { took = λ most n. then-takes _ (t .took most n) _ q (rw (← y, e, ← y₁, e₁, le-ltb _ _ b) (took-refuses 32)) }
+        -- the work counts all literals in one word
+        counted : allOf w₁ ≡ total (storeOf w₁ .literals)
+        counted = total-is w₁ (takes-good t q .literals)
 
-        pub literal-noted : {w₂ : List ℕ} → total (storeOf w₁ .literals) < 4096 → Changes w₁ w₂ (added key v) → Takes m w w₂ c (ok (v, c₁)) read
+        pub literal-32 : {w₂ : List ℕ} → 4096 ≤ allOf w₁ → Takes m w w₂ c (refuse 32 0) read
+        unfolding readText fromKey needAt _>>_ addLiteral _>>=_
+        literal-32 b = record { took = λ most n. then-takes _ (t .took most n) _ q (rw (← y, e, ← y₁, e₁, le-ltb _ _ (rw counted at b)) (took-refuses 32)) }
+
+        pub literal-noted : {w₂ : List ℕ} → allOf w₁ < 4096 → Changes w₁ w₂ (added key v) → Takes m w w₂ c (ok (v, c₁)) read
         unfolding readText fromKey needAt _>>_ addLiteral _>>=_
         literal-noted b d = record {
-          took = λ most n. then-takes _ (t .took most n) _ q (rw (← y, e, ← y₁, e₁, lt-ltb _ _ b) (record {
+          took = λ most n. then-takes _ (t .took most n) _ q (rw (← y, e, ← y₁, e₁, lt-ltb _ _ (rw counted at b)) (record {
             answer = refl;
             left = record { state = rw (d .store); ready = ready-added key v (took-ready _ (t .took most n) q) d; inside = took-inside _ (t .took most n) q; same = same-words d };
           }));
         }
-
-pub takes-good : {X : Type 0} {m w w₁ : List ℕ} {c c₁ : Cursor} {x : X} {r : Answer (X × Cursor)} {f : State (inMessage m) → Answer (X × State (inMessage m))} → Takes m w w₁ c r f → r ≡ ok (x, c₁) → Good w₁
-takes-good t q = took-ready _ (t .took 0 0) q .good
 
 pub takes-inside : {X : Type 0} {m w w₁ : List ℕ} {c c₁ : Cursor} {x : X} {r : Answer (X × Cursor)} {f : State (inMessage m) → Answer (X × State (inMessage m))} → Takes m w w₁ c r f → r ≡ ok (x, c₁) → Inside m c₁
 takes-inside t q = took-inside _ (t .took 0 0) q

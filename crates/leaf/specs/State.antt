@@ -12,8 +12,8 @@ use Rattle.label.specs.declared.cursor.Cursor.{Cursor}
 use Rattle.pieces.specs.Chain.{waitingOf}
 use Rattle.pieces.specs.Pieces.{readingOf, Inside, Blocks}
 use Rattle.store.specs.Store.{lookup}
-use Rattle.store.specs.Words.{storeOf, Good}
 use Rattle.store.specs.Same.{Same}
+use Rattle.pages.specs.Words.{storeOf, Good}
 use Rattle.leaf.specs.declared.Step.{Step}
 use Rattle.leaf.specs.declared.Step.the-variants.{Done, Refused}
 

@@ -9,7 +9,7 @@ ghost use Rattle.format.specs.Read.{inMessage, readBytes, readNumber, atKey, li
 ghost use Rattle.label.specs.Cursor.{labelAt};
 ghost use Rattle.pieces.specs.Pieces.{Inside};
 ghost use Rattle.store.specs.Store.{lookup};
-ghost use Rattle.store.specs.Words.{storeOf};
+ghost use Rattle.pages.specs.Words.{storeOf};
 ghost use Rattle.leaf.specs.State.{Ready, Takes};
 ghost use Rattle.leaf.specs.Meaning.{partOf, numberOf, PartIn};
 ghost use Rattle.leaf.specs.Contracts.{Opened};

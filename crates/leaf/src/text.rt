@@ -6,7 +6,7 @@ ghost use lib.ListN.{length};
 ghost use Rattle.format.specs.Row.{bytesAt};
 ghost use Rattle.format.specs.Read.{inMessage, isRight, readText};
 ghost use Rattle.pieces.specs.Pieces.{Inside};
-ghost use Rattle.store.specs.Words.{Good};
+ghost use Rattle.pages.specs.Words.{Good};
 ghost use Rattle.leaf.specs.State.{Ready, Takes};
 ghost use Rattle.leaf.specs.Meaning.{frontOf, heldLeaf, heldOf, partOf};
 ghost use Rattle.leaf.specs.Contracts.{Numbers, Again, textOf};
@@ -74,7 +74,7 @@ fn literal(
     if MOST_LITERALS <= store::total(work) {
         return Part::Refused(32);
     }
-    store::add(work, key, start, size);
+    pages::add(work, key, start, size);
     taken
 }
 
@@ -92,7 +92,7 @@ fn back(work: &[u32], modes: u64, key: usize, dedup: bool, k: usize, c: Cursor) 
     if store::count(work, key) <= k - 3 {
         return Part::Refused(26);
     }
-    let place = store::get(work, key, k - 3);
+    let place = pages::get(work, key, k - 3);
     Part::At(place.start, place.size, c)
 }
 

@@ -110,7 +110,7 @@ module _ (table m w l : List ℕ) (k : Kept table w) where
             begun-in = subst (BegunIn m w w₁) q₃ (x .stands)
 
             kept : Kept table w₁
-            kept = kept-still k (begun-in .0 .good .whole) (begun-in .2 .at)
+            kept = kept-still k (begun-in .0 .good .slots .whole) (begun-in .2 .at)
 
             pub root-ready : Ready m w₁ × Inside m core × Sized table × FitsNode table w₁ 32 0
             root-ready = (begun-in .0, begun-in .1, kept-sized kept, kept-fits kept)
@@ -151,5 +151,5 @@ module _ (table m w l : List ℕ) (k : Kept table w) where
                     ended .count,
                     ended .stored,
                     omega (arith, ended .room),
-                    kept-still kept (end-ready .good .whole) (done-same _ root-does q₄ .at),
+                    kept-still kept (end-ready .good .slots .whole) (done-same _ root-does q₄ .at),
                   )

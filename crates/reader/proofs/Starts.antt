@@ -19,8 +19,11 @@ use Rattle.pieces.specs.declared.Parts.the-variants.{Found, Bad}
 use Rattle.pieces.specs.Chain.{waitingOf, waiting-none}
 use Rattle.pieces.specs.Pieces.{readingOf, Blocks, no-blocks, partsOf, Stand, Parted}
 use Rattle.store.specs.Store.{empty, lookup, rested}
-use Rattle.store.specs.Words.{storeOf, Changes}
+use Rattle.store.specs.Words.{Moved, Cleared}
 use Rattle.store.specs.Same.{Same}
+use Rattle.store.specs.Keeping.{moved, cleared}
+use Rattle.pages.specs.Words.{storeOf, Changes}
+use Rattle.pages.specs.Laws.{keeping}
 use Rattle.leaf.specs.State.{Ready, stateOf}
 use Rattle.reader.specs.declared.Begun as begun
 use Rattle.reader.specs.Reader.{isSized, start, Begins}
@@ -50,7 +53,14 @@ none-found : {X : Type 0} {x : X} {P : Type 0} (k : ℕ) → lookup k [] ≡ som
 unfolding lookup
 none-found k e = absurd (let z : _≡_ {A = ℕ} 0 1 = cc in omega arith)
 
-module _ (m w w₁ w₂ : List ℕ) (at end : ℕ) (small : length m ≤ 65536) (d₁ : Changes w w₁ (λ s. empty)) (d₂ : Changes w₁ w₂ (rested (record { at = at; end = end }))) where
+module _ (m w w₁ w₂ : List ℕ) (at end : ℕ) (small : length m ≤ 65536) (whole : 16384 ≤ length w) (z₁ : Cleared 1120 w w₁) (v₂ : Moved w₁ w₂ (rested (record { at = at; end = end }))) where
+  -- what the two calls make of the whole store
+  d₁ : Changes w w₁ (λ s. empty)
+  d₁ = cleared keeping whole z₁
+
+  d₂ : Changes w₁ w₂ (rested (record { at = at; end = end }))
+  d₂ = moved keeping (d₁ .good) v₂
+
   store-is : storeOf w₂ ≡ record { slots = []; rest = record { at = at; end = end }; literals = noLiterals }
   store-is = d₂ .store ∙ ap (rested (record { at = at; end = end })) (d₁ .store)
 
@@ -63,23 +73,23 @@ module _ (m w w₁ w₂ : List ℕ) (at end : ℕ) (small : length m ≤ 65536) 
   state-begun : (most : ℕ) (c : Cursor) → stateOf m most w₂ c 0 ≡ record { core = readingOf c; blocks = []; waiting = waitingOf m at end; literals = noLiterals; rows = most }
   state-begun most c = rw (store-is, sub-zero most)
 
-module _ (m w w₁ : List ℕ) (modes : ℕ) (small : length m ≤ 65536) (d₁ : Changes w w₁ (λ s. empty)) where
-  pub begin-inline : {w₂ : List ℕ} → 1 ≤ length m → modes % 2 ≡ 1 → Changes w₁ w₂ (rested (record { at = length m; end = length m })) → Begins m modes w w₂ (begun.the-variants.Core (record { at = 1; end = length m }))
-  begin-inline {w₂} h e d₂ = record {
-    is = λ most. ap ok (state-begun m w w₁ w₂ (length m) (length m) small d₁ d₂ most (record { at = 1; end = length m }) ∙ rw (waiting-none m (length m))) ∙ sym (start-inline m modes most (inline-is modes e));
-    stands = (ready-begun m w w₁ w₂ (length m) (length m) small d₁ d₂ (no-blocks m), record { ordered = h; inside = omega arith }, same-begun m w w₁ w₂ (length m) (length m) small d₁ d₂);
+module _ (m w w₁ : List ℕ) (modes : ℕ) (small : length m ≤ 65536) (whole : 16384 ≤ length w) (z₁ : Cleared 1120 w w₁) where
+  pub begin-inline : {w₂ : List ℕ} → 1 ≤ length m → modes % 2 ≡ 1 → Moved w₁ w₂ (rested (record { at = length m; end = length m })) → Begins m modes w w₂ (begun.the-variants.Core (record { at = 1; end = length m }))
+  begin-inline {w₂} h e v₂ = record {
+    is = λ most. ap ok (state-begun m w w₁ w₂ (length m) (length m) small whole z₁ v₂ most (record { at = 1; end = length m }) ∙ rw (waiting-none m (length m))) ∙ sym (start-inline m modes most (inline-is modes e));
+    stands = (ready-begun m w w₁ w₂ (length m) (length m) small whole z₁ v₂ (no-blocks m), record { ordered = h; inside = omega arith }, same-begun m w w₁ w₂ (length m) (length m) small whole z₁ v₂);
   }
 
   module _ (z : modes % 2 ≡ 1 → ⊥) (r : Parts) (x : Parted m r) where
     pub begin-bad : {w₂ : List ℕ} → r ≡ Bad → Begins m modes w w₂ begun.the-variants.Bad
     begin-bad q = record { is = λ most. sym (start-bad m modes most (inline-not modes z) (sym (x .is) ∙ ap (partsOf m) q)); stands = tt }
 
-    pub begin-found : {w₂ : List ℕ} {core rest : Cursor} → r ≡ Found core rest → Changes w₁ w₂ (rested (record { at = rest .at; end = rest .end })) → Begins m modes w w₂ (begun.the-variants.Core core)
-    begin-found {w₂} {core} {rest} q d₂ =
+    pub begin-found : {w₂ : List ℕ} {core rest : Cursor} → r ≡ Found core rest → Moved w₁ w₂ (rested (record { at = rest .at; end = rest .end })) → Begins m modes w w₂ (begun.the-variants.Core core)
+    begin-found {w₂} {core} {rest} q v₂ =
         let s : Stand m (Found core rest) = subst (Stand m) q (x .stand) in
         record {
-          is = λ most. ap ok (state-begun m w w₁ w₂ (rest .at) (rest .end) small d₁ d₂ most core) ∙ sym (start-found m modes most _ _ (inline-not modes z) (sym (x .is) ∙ ap (partsOf m) q));
-          stands = (ready-begun m w w₁ w₂ (rest .at) (rest .end) small d₁ d₂ (s .1), s .0, same-begun m w w₁ w₂ (rest .at) (rest .end) small d₁ d₂);
+          is = λ most. ap ok (state-begun m w w₁ w₂ (rest .at) (rest .end) small whole z₁ v₂ most core) ∙ sym (start-found m modes most _ _ (inline-not modes z) (sym (x .is) ∙ ap (partsOf m) q));
+          stands = (ready-begun m w w₁ w₂ (rest .at) (rest .end) small whole z₁ v₂ (s .1), s .0, same-begun m w w₁ w₂ (rest .at) (rest .end) small whole z₁ v₂);
         }
 
     -- where the blocks stand fits the store's words

@@ -1,5 +1,5 @@
 -- Whether everything has been read, as the code tells it: a reading place inside the message has been read when it stands at its end.
-use mathlib.Core.Path.{_≡_, refl, sym, ap, _∙_}
+use mathlib.Core.Path.{_≡_, refl, sym, ap, _∙_, subst}
 use mathlib.Core.Bool.{Bool, true, false, cond, _&&_, and-false, and-true}
 use mathlib.Core.List.{List}
 use mathlib.Core.Option.{some, Option·some-injective}
@@ -17,9 +17,10 @@ use Rattle.store.specs.declared.Touched.{Touched}
 use Rattle.store.specs.declared.Reading as code
 use Rattle.store.specs.Lists.{upto, upto-length, upto-nth}
 use Rattle.store.specs.Store.{lookup}
-use Rattle.store.specs.Words.{keyOf, readingOf as placeOf, slotOf, slotCount, slotsOf, storeOf}
+use Rattle.store.specs.Words.{keyOf, readingOf as placeOf, slotOf, slotCount, slotsOf, restOf}
 use Rattle.store.specs.Meaning.{touched, reading}
 use Rattle.store.specs.Laws.{drop-nth}
+use Rattle.pages.specs.Words.{storeOf}
 use Rattle.leaf.specs.State.{Ready, cursorOf}
 use Rattle.reader.specs.Reader.{AllRead, IsDone}
 
@@ -50,9 +51,9 @@ lookup-upto {X} f g (suc n) (suc j) h = go (eqb (f 0) (f (suc j))) refl (lookup-
     go true e q = rw (eqb-true (f 0) (f (suc j)) e) refl
     go false e q = q
 
-module _ (w : List ℕ) (i : ℕ) (r : Touched) (e : nth (storeOf w .slots) i ≡ some (touched r)) (h : i < length (storeOf w .slots)) where
-  slot-found : lookup (r .key) (storeOf w .slots) ≡ some (touched r .1)
-  unfolding storeOf slotsOf
+module _ (w : List ℕ) (i : ℕ) (r : Touched) (e : nth (slotsOf w) i ≡ some (touched r)) (h : i < length (slotsOf w)) where
+  slot-found : lookup (r .key) (slotsOf w) ≡ some (touched r .1)
+  unfolding slotsOf
   slot-found =
       let b : i < slotCount w = omega (arith, upto-length (slotOf w) (slotCount w)) in
       let q : slotOf w i ≡ touched r = Option·some-injective _ _ (sym (upto-nth (slotOf w) (slotCount w) i b) ∙ e) in
@@ -62,29 +63,31 @@ module _ (w : List ℕ) (i : ℕ) (r : Touched) (e : nth (storeOf w .slots) i �
 
   module _ (m : List ℕ) (ready : Ready m w) where
     slot-inside : Inside m (cursorOf (touched r .1))
+    unfolding storeOf
     slot-inside = ready .slots (r .key) (touched r .1) slot-found
 
-    slot-left : allRead (inMessage m) (drop i (storeOf w .slots)) ≡ (isRead (inMessage m) (touched r .1) && allRead (inMessage m) (drop (i + 1) (storeOf w .slots)))
+    slot-left : allRead (inMessage m) (drop i (slotsOf w)) ≡ (isRead (inMessage m) (touched r .1) && allRead (inMessage m) (drop (i + 1) (slotsOf w)))
     unfolding allRead
-    slot-left = rw (drop-nth (storeOf w .slots) i e, add-one i)
+    slot-left = rw (drop-nth (slotsOf w) i e, add-one i)
 
 -- all are read if those from the i-th on are
 pub record LeftAt (w : List ℕ) (i : ℕ) : Type 0 where
-  pub is : (m : List ℕ) → Ready m w → allRead (inMessage m) (storeOf w .slots) ≡ allRead (inMessage m) (drop i (storeOf w .slots))
+  pub is : (m : List ℕ) → Ready m w → allRead (inMessage m) (slotsOf w) ≡ allRead (inMessage m) (drop i (slotsOf w))
 
 pub left-first : (w : List ℕ) → LeftAt w 0
 left-first w = record { is = λ m g. refl }
 
-module _ (w : List ℕ) (i : ℕ) (r : Touched) (x : LeftAt w i) (e : nth (storeOf w .slots) i ≡ some (touched r)) (h : i < length (storeOf w .slots)) where
+module _ (w : List ℕ) (i : ℕ) (r : Touched) (x : LeftAt w i) (e : nth (slotsOf w) i ≡ some (touched r)) (h : i < length (slotsOf w)) where
   pub left-next : r .at ≡ r .end → LeftAt w (i + 1)
   left-next q = record { is = λ m g. x .is m g ∙ slot-left w i r e h m g ∙ rw (read-all m (touched r .1) (slot-inside w i r e h m g) q) refl }
 
   pub left-not : (r .at ≡ r .end → ⊥) → AllRead w false
+  unfolding storeOf
   left-not z = record { is = λ m g. x .is m g ∙ slot-left w i r e h m g ∙ rw (read-not m (touched r .1) (slot-inside w i r e h m g) z) refl }
 
-pub left-none : (w : List ℕ) (i : ℕ) → LeftAt w i → length (storeOf w .slots) ≤ i → AllRead w true
-unfolding allRead
-left-none w i x h = record { is = λ m g. x .is m g ∙ rw (drop-of-length-le (storeOf w .slots) h) refl }
+pub left-none : (w : List ℕ) (i : ℕ) → LeftAt w i → length (slotsOf w) ≤ i → AllRead w true
+unfolding allRead storeOf
+left-none w i x h = record { is = λ m g. x .is m g ∙ rw (drop-of-length-le (slotsOf w) h) refl }
 
 -- ---- core, blocks given and blocks that wait
 
@@ -93,9 +96,10 @@ module _ (w : List ℕ) (c : Cursor) where
   unfolding isDone
   core-left z = record { is = λ m most n g i. rw (read-not m (readingOf c) i z) refl }
 
-  module _ (e : c .at ≡ c .end) (p : code.Reading) (q : reading p ≡ storeOf w .rest) where
+  module _ (e : c .at ≡ c .end) (p : code.Reading) (q : reading p ≡ restOf w) where
     waits : (m : List ℕ) (b : Bool) → Ready m w → eqb (p .at) (p .end) ≡ b → eqb (length (waitingOf m (storeOf w .rest .at) (storeOf w .rest .end))) 0 ≡ b
-    waits m b g h = none-waiting (g .blocks .chain) ∙ rw (← q) h
+    unfolding storeOf
+    waits m b g h = none-waiting (g .blocks .chain) ∙ subst (λ (x : Reading). eqb (x .at) (x .end) ≡ b) q h
 
     pub block-left : (p .at ≡ p .end → ⊥) → IsDone w c false
     unfolding isDone

@@ -14,8 +14,8 @@ use Rattle.format.specs.Read.{inMessage, State, split, noLiterals, allRead, isD
 use Rattle.table.specs.declared.Answer as code
 use Rattle.label.specs.declared.cursor.Cursor.{Cursor}
 use Rattle.pieces.specs.Pieces.{Inside}
-use Rattle.store.specs.Words.{storeOf}
 use Rattle.store.specs.Same.{Same}
+use Rattle.pages.specs.Words.{storeOf}
 use Rattle.typed.specs.Typed.{Kept}
 use Rattle.leaf.specs.declared.Step.{Step}
 use Rattle.leaf.specs.declared.Step.the-variants.{Done, Refused}

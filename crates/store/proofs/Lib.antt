@@ -1,4 +1,3 @@
 -- Lemmas that the proofs cite.
-mod Stores
+mod Zeros
 mod Slots
-mod Literals

@@ -11,8 +11,8 @@ use Rattle.format.specs.Read.{Reading, nth}
 use Rattle.laws.specs.Facts.{by-eq}
 use Rattle.store.specs.Lists.{upto, upto-length, upto-nth, upto-ext, upto-snoc, sum-at, sum-room}
 use Rattle.store.specs.Store.{lookup, change, moveTo, opened, advanced, rested}
-use Rattle.store.specs.Words.{word, keyOf, readingOf, indexOf, slotCount, slotOf, slotsOf, storeOf, GoodSlots, Good, Changes}
-use Rattle.store.proofs.Stores.{skip, hit, reading-eq, store-eq, slot-most, good-slots-kept, slots-below, literals-kept, good-literals-kept}
+use Rattle.store.specs.Words.{word, keyOf, readingOf, indexOf, slotCount, slotOf, slotsOf, GoodSlots, Moved}
+use Rattle.store.specs.Slots.{skip, hit, reading-eq, store-eq, slot-most, good-slots-kept, slots-below}
 
 -- ---- what stands under a key in a list made by a rule
 
@@ -44,8 +44,8 @@ module _ {X : Type 0} where
 
 -- ---- what is found
 
-pub slots-length : (w : List ℕ) → length (storeOf w .slots) ≡ slotCount w
-unfolding storeOf slotsOf
+pub slots-length : (w : List ℕ) → length (slotsOf w) ≡ slotCount w
+unfolding slotsOf
 slots-length w = upto-length (λ i. slotOf w i) (slotCount w)
 
 module _ (w : List ℕ) (g : GoodSlots w) where
@@ -53,8 +53,8 @@ module _ (w : List ℕ) (g : GoodSlots w) where
   once : (i j : ℕ) → i < slotCount w → j < slotCount w → keyOf w i ≡ keyOf w j → i ≡ j
   once i j h b e = let z : suc i ≡ suc j = sym (g .indexed i h) ∙ ap (λ (k : ℕ). indexOf w k) e ∙ g .indexed j b in omega arith
 
-  find-some : (k : ℕ) → k < 32 → (indexOf w k ≡ 0 → ⊥) → lookup k (storeOf w .slots) ≡ some (readingOf w k)
-  unfolding storeOf slotsOf
+  find-some : (k : ℕ) → k < 32 → (indexOf w k ≡ 0 → ⊥) → lookup k (slotsOf w) ≡ some (readingOf w k)
+  unfolding slotsOf
   find-some k h o = go (indexOf w k) refl
     where
       go : (n : ℕ) → indexOf w k ≡ n → lookup k (slotsOf w) ≡ some (readingOf w k)
@@ -65,14 +65,14 @@ module _ (w : List ℕ) (g : GoodSlots w) where
           ∙ ap (λ (k : ℕ). some (readingOf w k)) (r .1)
 
   pub find-is : (k : ℕ) → k < 32 → (indexOf w k ≡ 0 → ⊥) → {a e : ℕ} → a ≡ word w (1056 + k) → e ≡ word w (1088 + k)
-      → _≡_ {A = Option Reading} (some (record { at = a; end = e })) (lookup k (storeOf w .slots))
+      → _≡_ {A = Option Reading} (some (record { at = a; end = e })) (lookup k (slotsOf w))
   find-is k h o p q = rw (p, q) (sym (find-some k h o))
 
-  pub find-none : (k : ℕ) → indexOf w k ≡ 0 → lookup k (storeOf w .slots) ≡ none
-  unfolding storeOf slotsOf
+  pub find-none : (k : ℕ) → indexOf w k ≡ 0 → lookup k (slotsOf w) ≡ none
+  unfolding slotsOf
   find-none k e = lookup-upto-none (λ j. slotOf w j) (slotCount w) k (λ j b q. let z : indexOf w k ≡ suc j = ap (λ (k : ℕ). indexOf w k) (sym q) ∙ g .indexed j b in omega arith)
 
-  module _ (k : ℕ) (h : k < 32) (e : lookup k (storeOf w .slots) ≡ none) where
+  module _ (k : ℕ) (h : k < 32) (e : lookup k (slotsOf w) ≡ none) where
     untouched : indexOf w k ≡ 0
     untouched = by-eq (indexOf w k) 0 (λ q. q) (λ o. let f = find-some k h o in let z : _≡_ {A = ℕ} 0 1 = cc in absurd (omega arith))
 
@@ -80,23 +80,20 @@ module _ (w : List ℕ) (g : GoodSlots w) where
     slot-room = let z = untouched in omega (arith, g .room, sum-room (λ i. min 1 (indexOf w i)) 32 k (λ j. omega arith) h (omega arith))
 
   -- slot i
-  module _ (i : ℕ) (h : i < length (storeOf w .slots)) where
+  module _ (i : ℕ) (h : i < length (slotsOf w)) where
     counted : i < slotCount w
     counted = omega (arith, slots-length w)
 
     pub slot-in : (i < 32) × (keyOf w i < 32)
     slot-in = (omega (arith, counted, slot-most w g), g .named i counted)
 
-    pub slot-is : {k a e : ℕ} → k ≡ keyOf w i → a ≡ word w (1056 + k) → e ≡ word w (1088 + k) → nth (storeOf w .slots) i ≡ some (k, record { at = a; end = e })
-    unfolding storeOf slotsOf
+    pub slot-is : {k a e : ℕ} → k ≡ keyOf w i → a ≡ word w (1056 + k) → e ≡ word w (1088 + k) → nth (slotsOf w) i ≡ some (k, record { at = a; end = e })
+    unfolding slotsOf
     slot-is p q r = rw (q, r, p) (upto-nth (λ j. slotOf w j) (slotCount w) i counted)
 
 -- ---- a slot more
 
-module _ (w : List ℕ) (good : Good w) (key at end : ℕ) (hk : key < 32) (e : lookup key (storeOf w .slots) ≡ none) where
-  abbrev g : GoodSlots w
-  g = good .slots
-
+module _ (w : List ℕ) (g : GoodSlots w) (key at end : ℕ) (hk : key < 32) (e : lookup key (slotsOf w) ≡ none) where
   abbrev n : ℕ
   n = slotCount w
 
@@ -119,7 +116,7 @@ module _ (w : List ℕ) (good : Good w) (key at end : ℕ) (hk : key < 32) (e : 
   room = slot-room w g key hk e
 
   whole : 16384 ≤ length w
-  whole = good .whole
+  whole = g .whole
 
   -- by the words that are stored, from the last to the first
   same : (a : ℕ) → (a ≡ 1152 → ⊥) × (a ≡ 1120 + key → ⊥) × (a ≡ 1088 + key → ⊥) × (a ≡ 1056 + key → ⊥) × (a ≡ 1024 + n → ⊥) → word w₅ a ≡ word w a
@@ -162,6 +159,7 @@ module _ (w : List ℕ) (good : Good w) (key at end : ℕ) (hk : key < 32) (e : 
   good-touched =
       let c = count in
       record {
+        whole = simp length-set (g .whole);
         named = λ i h. by-eq i n (λ q. rw (q, last) hk) (λ o. let b : i < n = omega arith in rw (keys i b) (g .named i b));
         indexed = λ i h. by-eq i n
             (λ q. rw (q, last, index) (add-one n))
@@ -180,26 +178,25 @@ module _ (w : List ℕ) (good : Good w) (key at end : ℕ) (hk : key < 32) (e : 
       rw (keys i h, readings (keyOf w i) (g .named i h) (other i h))) in
       ap (λ (m : ℕ). upto (λ i. slotOf w₅ i) m) (count ∙ add-one n) ∙ upto-snoc (λ i. slotOf w₅ i) n ∙ rw (f, last, reading)
 
-  all-touched : Changes w w₅ (opened key (record { at = at; end = end }))
-  unfolding storeOf
+  all-touched : Moved w w₅ (opened key (record { at = at; end = end }))
   all-touched =
       let r = room in
       let above : (i : ℕ) → 1153 ≤ i → word w₅ i ≡ word w i = λ i h. same i (omega arith) in
-      let lits : (i : ℕ) → 1155 ≤ i → word w₅ i ≡ word w i = λ i h. above i (omega arith) in
       record {
-        good = record { whole = simp length-set (good .whole); slots = good-touched; literals = good-literals-kept w w₅ lits (good .literals) };
-        store = store-eq slots-touched (reading-eq (above 1153 (omega arith)) (above 1154 (omega arith))) (literals-kept w w₅ lits);
+        good = good-touched;
+        store = λ literals. store-eq slots-touched (reading-eq (above 1153 (omega arith)) (above 1154 (omega arith))) refl;
         size = simp length-set;
         outside = λ i h. same i (omega arith);
+        behind = λ i h. above i (omega arith);
       }
 
-  pub touch-is : (m : ℕ) → m ≡ length (storeOf w .slots)
-      → Changes w (set (set (set (set (set w (1024 + m) key) (1056 + key) at) (1088 + key) end) (1120 + key) (m + 1)) 1152 (m + 1)) (opened key (record { at = at; end = end }))
+  pub touch-is : (m : ℕ) → m ≡ length (slotsOf w)
+      → Moved w (set (set (set (set (set w (1024 + m) key) (1056 + key) at) (1088 + key) end) (1120 + key) (m + 1)) 1152 (m + 1)) (opened key (record { at = at; end = end }))
   touch-is m q = rw (q ∙ slots-length w) all-touched
 
 -- ---- one moved on
 
-module _ (w : List ℕ) (good : Good w) (key at : ℕ) (hk : key < 32) where
+module _ (w : List ℕ) (g : GoodSlots w) (key at : ℕ) (hk : key < 32) where
   abbrev v : List ℕ
   v = set w (1056 + key) at
 
@@ -212,56 +209,42 @@ module _ (w : List ℕ) (good : Good w) (key at : ℕ) (hk : key < 32) where
   slots-advanced : slotsOf v ≡ moveTo key at (slotsOf w)
   unfolding slotsOf
   slots-advanced =
-      let g = good .slots in
       let m = slot-most w g in
       rw (kept 1152 (omega arith)) (change-upto (λ i. slotOf w i) (λ i. slotOf v i) (slotCount w) key (λ p. record { at = at; end = p .end }) (once w g)
       (λ i h q. rw (key-same i (omega arith), q)
-      (ap (λ (p : Reading). (key, p)) (reading-eq (hit w (1056 + key) at (omega (arith, good .whole))) (kept (1088 + key) (omega arith)))))
+      (ap (λ (p : Reading). (key, p)) (reading-eq (hit w (1056 + key) at (omega (arith, g .whole))) (kept (1088 + key) (omega arith)))))
       (λ i h o. let k = g .named i h in rw (key-same i (omega arith))
       (ap (λ (p : Reading). (keyOf w i, p)) (reading-eq (kept (1056 + keyOf w i) (λ z. o (omega arith))) (kept (1088 + keyOf w i) (omega arith))))))
 
-  pub advance-is : Changes w v (advanced key at)
-  unfolding storeOf
-  advance-is =
-      let lits : (i : ℕ) → 1155 ≤ i → word v i ≡ word w i = λ i h. kept i (omega arith) in
-      record {
-        good = record {
-          whole = simp length-set (good .whole);
-          slots = good-slots-kept w v (good .slots) (kept 1152 (omega arith)) key-same (λ k h. kept (1120 + k) (omega arith));
-          literals = good-literals-kept w v lits (good .literals);
-        };
-        store = store-eq slots-advanced (reading-eq (kept 1153 (omega arith)) (kept 1154 (omega arith))) (literals-kept w v lits);
-        size = length-set w (1056 + key) at;
-        outside = λ i h. kept i (omega arith);
-      }
+  pub advance-is : Moved w v (advanced key at)
+  advance-is = record {
+    good = good-slots-kept w v g (length-set w (1056 + key) at) (kept 1152 (omega arith)) key-same (λ k h. kept (1120 + k) (omega arith));
+    store = λ literals. store-eq slots-advanced (reading-eq (kept 1153 (omega arith)) (kept 1154 (omega arith))) refl;
+    size = length-set w (1056 + key) at;
+    outside = λ i h. kept i (omega arith);
+    behind = λ i h. kept i (omega arith);
+  }
 
 -- ---- the reading place of no key
 
-module _ (w : List ℕ) (good : Good w) (at end : ℕ) where
+module _ (w : List ℕ) (g : GoodSlots w) (at end : ℕ) where
   abbrev u : List ℕ
   u = set (set w 1153 at) 1154 end
 
   stays : (a : ℕ) → (a ≡ 1154 → ⊥) → (a ≡ 1153 → ⊥) → word u a ≡ word w a
   stays a h₂ h₁ = skip (set w 1153 at) 1154 end a h₂ ∙ skip w 1153 at a h₁
 
-  pub rest-is : Changes w u (rested (record { at = at; end = end }))
-  unfolding storeOf
+  pub rest-is : Moved w u (rested (record { at = at; end = end }))
   rest-is =
+      let l : length u ≡ length w = simp length-set in
       let b : (i : ℕ) → i < 1153 → word u i ≡ word w i = λ i h. stays i (omega arith) (omega arith) in
-      let lits : (i : ℕ) → 1155 ≤ i → word u i ≡ word w i = λ i h. stays i (omega arith) (omega arith) in
-      let s = slots-below w u (good .slots) b in
+      let s = slots-below w u g l b in
       record {
-        good = record {
-          whole = simp length-set (good .whole);
-          slots = s .0;
-          literals = good-literals-kept w u lits (good .literals);
-        };
-        store = store-eq
-            (s .1)
-            (reading-eq
-            (skip (set w 1153 at) 1154 end 1153 (omega arith) ∙ hit w 1153 at (omega (arith, good .whole)))
-            (hit (set w 1153 at) 1154 end (simp length-set (omega (arith, good .whole)))))
-            (literals-kept w u lits);
-        size = simp length-set;
+        good = s .0;
+        store = λ literals. store-eq (s .1) (reading-eq
+            (skip (set w 1153 at) 1154 end 1153 (omega arith) ∙ hit w 1153 at (omega (arith, g .whole)))
+            (hit (set w 1153 at) 1154 end (simp length-set (omega (arith, g .whole))))) refl;
+        size = l;
         outside = λ i h. b i (omega arith);
+        behind = λ i h. stays i (omega arith) (omega arith);
       }

@@ -1,24 +1,21 @@
--- Laws of the store for its callers: what stands under a key, the format's steps at a key's block in these terms, and the store of zeros.
+-- Laws of the store for its callers: what stands under a key, and the format's steps at a key's block in these terms.
 use mathlib.Core.Path.{_≡_, refl, sym, ap, _∙_}
 use mathlib.Core.Bool.{Bool, true, false, cond}
 use mathlib.Core.List.{List, [], _∷_, _++_}
 use mathlib.Core.Option.{Option, none, some, Option·some-injective}
-use Prim.Native.Nat.{ℕ, zero, suc, _+_, _<_, _≤_, min}
+use Prim.Native.Nat.{ℕ, zero, suc, _<_, _≤_}
 use native.Mathlib.Omega.{arith}
 use lib.Dec.{eqb}
 use lib.ListN.{length, drop}
 use borrow.Author.Tests.{eqb-true, eq-eqb, ne-eqb}
 use Rattle.format.specs.Answer.{Answer, ok, refuse, _>>=_}
-use Rattle.format.specs.Row.{Place}
-use Rattle.format.specs.Read.{Source, Reading, atBlock, nth, noLiterals}
+use Rattle.format.specs.Read.{Source, Reading, atBlock, nth}
 use Rattle.format.specs.Write.{addBytes}
 use Rattle.laws.specs.Facts.{by-lt}
-use Rattle.store.specs.Lists.{upto, sumTo, upto-ext, upto-replicate, sum-ext}
-use Rattle.store.specs.Store.{empty, lookup, change, put, moveTo}
+use Rattle.store.specs.Store.{lookup, change, put, moveTo}
 use Rattle.store.specs.Meaning.{slot}
 use Rattle.store.specs.declared.Slot.{Slot}
 use Rattle.store.specs.declared.Slot.the-variants.{At, Untouched}
-use Rattle.store.specs.Words.{word, slotCount, indexOf, slotsOf, countOf, pages, literalsOf, storeOf, GoodLiterals, Good}
 
 -- ---- what stands under a key
 
@@ -151,59 +148,3 @@ module _ {X : Type 0} where
   drop-nth [] j e = not-some e
   drop-nth (y ∷ ys) zero {x} e = rw (Option·some-injective y x e)
   drop-nth (y ∷ ys) (suc j) e = drop-nth ys j e
-
--- ---- the literals of each key, and the store of zeros
-
-module _ (w : List ℕ) (z : (i : ℕ) → 1155 ≤ i → i < 1216 → word w i ≡ 0) where
-  no-literal : (k : ℕ) → k < 32 → countOf w k ≡ 0
-  no-literal k h = z (1184 + k) (omega arith) (omega arith)
-
-  no-page : (k i : ℕ) → k < 32 → i < pages (countOf w k) → ⊥
-  no-page k i h b = let e = no-literal k h in omega arith
-
-  -- where these words are 0, there are no literals
-  pub good-none : GoodLiterals w
-  unfolding sumTo
-  good-none =
-      record {
-        total = z 1156 (omega arith) (omega arith) ∙ sym (sum-ext (λ k. countOf w k) (λ k. 0) 32 no-literal);
-        most = omega (arith, z 1156 (omega arith) (omega arith));
-        room = z 1155 (omega arith) (omega arith) ∙ sym (sum-ext (λ k. pages (countOf w k)) (λ k. 0) 32 (λ k h. let e = no-literal k h in omega arith));
-        inside = λ k i h b. absurd (no-page k i h b);
-        apart = λ k i k′ i′ h h′ b b′ q. absurd (no-page k i h b);
-      }
-
-  pub literals-none : upto (λ k. literalsOf w k) 32 ≡ noLiterals
-  unfolding literalsOf upto
-  literals-none =
-      let e : upto (λ k. literalsOf w k) 32 ≡ upto (λ k. []) 32 = upto-ext (λ k. literalsOf w k) (λ k. []) 32 (λ k h. rw (no-literal k h)) in
-      e ∙ upto-replicate {A = List Place} [] 32
-
-module _ (w : List ℕ) (whole : 16384 ≤ length w) (z : (i : ℕ) → 1120 ≤ i → i < 1216 → word w i ≡ 0) where
-  no-slot : (i : ℕ) → i < slotCount w → ⊥
-  no-slot i h = omega (arith, z 1152 (omega arith) (omega arith))
-
-  no-index : (k : ℕ) → k < 32 → indexOf w k ≡ 0
-  no-index k h = z (1120 + k) (omega arith) (omega arith)
-
-  above : (i : ℕ) → 1155 ≤ i → i < 1216 → word w i ≡ 0
-  above i h b = z i (omega arith) b
-
-  -- the words that have to be 0
-  pub good-empty : Good w
-  unfolding sumTo
-  good-empty =
-      record {
-        whole = whole;
-        slots = record {
-          named = λ i h. absurd (no-slot i h);
-          indexed = λ i h. absurd (no-slot i h);
-          listed = λ k i h e. absurd (omega (arith, no-index k h));
-          room = z 1152 (omega arith) (omega arith) ∙ sym (sum-ext (λ k. min 1 (indexOf w k)) (λ k. 0) 32 (λ k h. let e = no-index k h in omega arith));
-        };
-        literals = good-none w above;
-      }
-
-  pub store-empty : storeOf w ≡ empty
-  unfolding storeOf slotsOf upto
-  store-empty = rw (z 1152 (omega arith) (omega arith), z 1153 (omega arith) (omega arith), z 1154 (omega arith) (omega arith), literals-none w above)

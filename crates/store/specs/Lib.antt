@@ -5,3 +5,5 @@ pub mod Words
 pub mod Same
 pub mod Meaning
 pub mod Laws
+pub mod Slots
+pub mod Keeping

@@ -68,6 +68,16 @@ unfolding sumTo
 sum-ext f g zero h = refl
 sum-ext f g (suc n) h = ap₂ (λ (a b : ℕ). a + b) (h 0 (omega arith)) (sum-ext (λ i. f (suc i)) (λ i. g (suc i)) n (λ j b. h (suc j) (omega arith)))
 
+pub sum-zero : (n : ℕ) → sumTo (λ i. 0) n ≡ 0
+unfolding sumTo
+sum-zero zero = refl
+sum-zero (suc n) = omega (arith, sum-zero n)
+
+pub sum-snoc : (f : ℕ → ℕ) (n : ℕ) → sumTo f (suc n) ≡ sumTo f n + f n
+unfolding sumTo
+sum-snoc f zero = omega arith
+sum-snoc f (suc n) = omega (arith, sum-snoc (λ i. f (suc i)) n)
+
 pub sum-ge : (f : ℕ → ℕ) (n k : ℕ) → k < n → f k ≤ sumTo f n
 unfolding sumTo
 sum-ge f zero k h = absurd (omega arith)

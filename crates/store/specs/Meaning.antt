@@ -1,16 +1,11 @@
 -- What the code's answers say in the format's terms.
 use mathlib.Core.Option.{Option, none, some}
 use Prim.Native.Nat.{ℕ, _<_, _^_}
-use Rattle.format.specs.Row as row
 use Rattle.format.specs.Read as read
-use Rattle.store.specs.declared.Place.{Place}
 use Rattle.store.specs.declared.Reading.{Reading}
 use Rattle.store.specs.declared.Touched.{Touched}
 use Rattle.store.specs.declared.Slot.{Slot}
 use Rattle.store.specs.declared.Slot.the-variants.{At, Untouched}
-
-abbrev pub place : Place → row.Place
-place p = record { start = p .start; size = p .size }
 
 abbrev pub reading : Reading → read.Reading
 reading p = record { at = p .at; end = p .end }

@@ -6,7 +6,7 @@ ghost use Rattle.format.specs.Answer.{number, second, output, zeros};
 ghost use Rattle.format.specs.Modes.{inlineEverything};
 ghost use Rattle.format.specs.Row.{rowCount};
 ghost use Rattle.format.specs.Write.{areWhole, write as writeOf};
-ghost use Rattle.store.specs.Words.{Good};
+ghost use Rattle.chains.specs.Words.{Good};
 ghost use Rattle.plan.specs.Layout.{messageLength};
 ghost use Rattle.emit.specs.State.{slotsOf};
 ghost use Rattle.typed.specs.Typed.{Kept};

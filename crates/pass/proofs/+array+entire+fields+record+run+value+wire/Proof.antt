@@ -365,7 +365,7 @@ fields-end-at-requires t c κs =
     let a = c18 .args in
     let x = c12 .loop in
     let f = group-fits (a .how) (now (a .table)) (now (a .pool)) (now (a .rows)) (now (a .out)) (now (a .work)) (a .omittable) (a .node) (a .count) (a .i) (a .core) (x .out) (x .work) (x .k) (x .at) (x .absent) (x .n) (x .end) (x .inv) (c18 .pre .1 .1) (c18 .pre .1 .2) in
-    omega (arith, node-inside _ _ _ _ f (c18 .pre .1 .1) .0, x .inv .holds .ready .good .whole, c9 .value .kept .1 .1 .1 .1 .0)
+    omega (arith, node-inside _ _ _ _ f (c18 .pre .1 .1) .0, x .inv .holds .ready .good .slots .whole, c9 .value .kept .1 .1 .1 .1 .0)
 
 fields-is-omittable-requires : (t : ℕ) → fields-lts.Need-is-omittable-requires (fields-uses t) (fields-at t) fields.Post fields-Inv-loop fields-μ-loop
 fields-is-omittable-requires t c κs =
@@ -421,7 +421,7 @@ run-next-node-requires t c κs =
     let c9 = c3 .before .before .before .before .before .before in
     let a = c9 .args in
     let x = c3 .loop in
-    omega (arith, node-inside _ _ _ _ (run-fits (a .how) (now (a .table)) (now (a .pool)) (now (a .rows)) (now (a .out)) (now (a .work)) (a .node) (a .repeated) (a .count) (a .i) (a .core) (x .out) (x .work) (x .k) (x .at) (x .n) (x .end) (x .inv) (c9 .pre .1 .1) (c9 .pre .1 .2) (c2 .loop-test .taken)) (c9 .pre .1 .1) .0, x .inv .holds .ready .good .whole)
+    omega (arith, node-inside _ _ _ _ (run-fits (a .how) (now (a .table)) (now (a .pool)) (now (a .rows)) (now (a .out)) (now (a .work)) (a .node) (a .repeated) (a .count) (a .i) (a .core) (x .out) (x .work) (x .k) (x .at) (x .n) (x .end) (x .inv) (c9 .pre .1 .1) (c9 .pre .1 .2) (c2 .loop-test .taken)) (c9 .pre .1 .1) .0, x .inv .holds .ready .good .slots .whole)
 
 run-descend-requires : (t : ℕ) → run-lts.Need-descend-requires (run-uses t) (run-at t) run.Post run-Inv-loop run-μ-loop
 run-descend-requires t c κs =

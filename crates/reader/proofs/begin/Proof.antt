@@ -1,6 +1,8 @@
 -- `reader::begin` meets its contract.
 use native.Mathlib.Omega.{arith}
 use denote.Ref.{now}
+use Rattle.store.specs.Keeping.{cleared}
+use Rattle.pages.specs.Laws.{keeping}
 use Rattle.reader.proofs.Starts.{begin-inline, begin-bad, begin-found, rest-small}
 use borrow.Author.Needs.{needs}
 use Rattle.reader.proofs.begin.Statement.{statement}
@@ -13,7 +15,7 @@ set-rest-requires : tie.Need-set-rest-requires
 set-rest-requires c κs =
     let c4 = c .before .before .before .before in
     let c8 = c4 .before .before .before .before in
-    (c4 .clear .ensures .good, omega (arith, c8 .pre .2), omega (arith, c8 .pre .2))
+    (cleared keeping (c8 .pre .0) (c4 .clear .ensures) .good .slots, omega (arith, c8 .pre .2), omega (arith, c8 .pre .2))
 
 same-length : tie.Need-same-length
 same-length c = search needs
@@ -25,7 +27,7 @@ returns c =
     let c7 = c4 .before .before .before in
     let c11 = c7 .before .before .before .before in
     let a = c11 .args in
-    begin-inline (now (a .m)) (now (a .work)) _ (a .modes) (c11 .pre .2) (c7 .clear .ensures) (c11 .pre .1) (c4 .if1 .taken) (c2 .set-rest .ensures)
+    begin-inline (now (a .m)) (now (a .work)) _ (a .modes) (c11 .pre .2) (c11 .pre .0) (c7 .clear .ensures) (c11 .pre .1) (c4 .if1 .taken) (c2 .set-rest .ensures)
 
 part-requires : tie.Need-part-requires
 part-requires c κs = search needs
@@ -46,7 +48,7 @@ returns-2 c =
     let c6 = c3 .before .before .before in
     let c10 = c6 .before .before .before .before in
     let a = c10 .args in
-    begin-bad (now (a .m)) (now (a .work)) _ (a .modes) (c10 .pre .2) (c6 .clear .ensures) (c3 .if1 .left) _ (c2 .part .ensures) (c .enum-told .given .1)
+    begin-bad (now (a .m)) (now (a .work)) _ (a .modes) (c10 .pre .2) (c10 .pre .0) (c6 .clear .ensures) (c3 .if1 .left) _ (c2 .part .ensures) (c .enum-told .given .1)
 
 set-rest-requires-2 : tie.Need-set-rest-requires-2
 set-rest-requires-2 c κs =
@@ -56,8 +58,8 @@ set-rest-requires-2 c κs =
     let c8 = c5 .before .before .before in
     let c12 = c8 .before .before .before .before in
     let a = c12 .args in
-    let b = rest-small (now (a .m)) (now (a .work)) _ (a .modes) (c12 .pre .2) (c8 .clear .ensures) (c5 .if1 .left) _ (c4 .part .ensures) (c2 .core .given .1) in
-    (c8 .clear .ensures .good, omega arith, omega arith)
+    let b = rest-small (now (a .m)) (now (a .work)) _ (a .modes) (c12 .pre .2) (c12 .pre .0) (c8 .clear .ensures) (c5 .if1 .left) _ (c4 .part .ensures) (c2 .core .given .1) in
+    (cleared keeping (c12 .pre .0) (c8 .clear .ensures) .good .slots, omega arith, omega arith)
 
 same-length-3 : tie.Need-same-length-3
 same-length-3 c = search needs
@@ -71,7 +73,7 @@ returns-3 c =
     let c11 = c8 .before .before .before in
     let c15 = c11 .before .before .before .before in
     let a = c15 .args in
-    begin-found (now (a .m)) (now (a .work)) _ (a .modes) (c15 .pre .2) (c11 .clear .ensures) (c8 .if1 .left) _ (c7 .part .ensures) (c5 .core .given .1) (c2 .set-rest2 .ensures)
+    begin-found (now (a .m)) (now (a .work)) _ (a .modes) (c15 .pre .2) (c15 .pre .0) (c11 .clear .ensures) (c8 .if1 .left) _ (c7 .part .ensures) (c5 .core .given .1) (c2 .set-rest2 .ensures)
 
 pub begin-spec : {M : Type 1} → statement M
 begin-spec =

@@ -18,7 +18,7 @@ shared-slice-read-if1 c = search needs
 returns : tie.Need-returns
 returns c =
     let s = c .before .before .before in
-    (sym (find-none (now (s .args .work)) (s .pre .0 .slots) (s .args .key) (c .if1 .taken)), tt)
+    (sym (find-none (now (s .args .work)) (s .pre .0) (s .args .key) (c .if1 .taken)), tt)
 
 add-wide : tie.Need-add-wide
 add-wide c = search needs
@@ -47,7 +47,7 @@ wide-requires-2 c κs = search needs
 returns-2 : tie.Need-returns-2
 returns-2 c =
     let s = c .before .before .before .before .before .before .before in
-    (find-is (now (s .args .work)) (s .pre .0 .slots) (s .args .key) (s .pre .1) (c .before .before .before .before .if1 .left) (c .before .before .wide .ensures .0) (c .wide2 .ensures .0), (c .before .before .wide .ensures .1, c .wide2 .ensures .1))
+    (find-is (now (s .args .work)) (s .pre .0) (s .args .key) (s .pre .1) (c .before .before .before .before .if1 .left) (c .before .before .wide .ensures .0) (c .wide2 .ensures .0), (c .before .before .wide .ensures .1, c .wide2 .ensures .1))
 
 pub find-spec : {M : Type 1} → statement M
 find-spec =

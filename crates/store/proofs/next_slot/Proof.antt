@@ -16,7 +16,7 @@ wide-requires c κs = search needs
 returns : tie.Need-returns
 returns c =
     let s = c .before .before .before in
-    let r = slot-room (now (s .args .work)) (s .pre .0 .slots) (s .args .key) (s .pre .1) (s .pre .2) in
+    let r = slot-room (now (s .args .work)) (s .pre .0) (s .args .key) (s .pre .1) (s .pre .2) in
     (c .wide .ensures .0 ∙ sym (slots-length (now (s .args .work))), omega (arith, c .wide .ensures .0))
 
 pub next-slot-spec : {M : Type 1} → statement M

@@ -1,7 +1,6 @@
 -- `store::rest` meets its contract. Assumes nothing.
 use borrow.Author.Needs.{needs}
-use Rattle.store.specs.Words.{storeOf}
-use Rattle.store.proofs.Stores.{reading-eq}
+use Rattle.store.specs.Slots.{reading-eq}
 use Rattle.store.proofs.rest.Statement.{statement}
 use Rattle.store.proofs.rest.Tie as tie
 
@@ -24,7 +23,6 @@ wide-requires-2 : tie.Need-wide-requires-2
 wide-requires-2 c κs = search needs
 
 returns : tie.Need-returns
-unfolding storeOf
 returns c = (reading-eq (c .before .before .wide .ensures .0) (c .wide2 .ensures .0), (c .before .before .wide .ensures .1, c .wide2 .ensures .1))
 
 pub rest-spec : {M : Type 1} → statement M

@@ -9,17 +9,17 @@ use Rattle.store.proofs.slot_at.Tie as tie
 add-wide : tie.Need-add-wide
 add-wide c =
     let s = c .before in
-    omega (arith, slot-in (now (s .args .work)) (s .pre .0 .slots) (s .args .i) (s .pre .1))
+    omega (arith, slot-in (now (s .args .work)) (s .pre .0) (s .args .i) (s .pre .1))
 
 mul-wide : tie.Need-mul-wide
 mul-wide c =
     let s = c .before in
-    omega (arith, slot-in (now (s .args .work)) (s .pre .0 .slots) (s .args .i) (s .pre .1))
+    omega (arith, slot-in (now (s .args .work)) (s .pre .0) (s .args .i) (s .pre .1))
 
 shared-slice-read-wide : tie.Need-shared-slice-read-wide
 shared-slice-read-wide c =
     let s = c .before .before in
-    omega (arith, slot-in (now (s .args .work)) (s .pre .0 .slots) (s .args .i) (s .pre .1))
+    omega (arith, slot-in (now (s .args .work)) (s .pre .0) (s .args .i) (s .pre .1))
 
 wide-requires : tie.Need-wide-requires
 wide-requires c κs = search needs
@@ -33,7 +33,7 @@ mul-wide-2 c = search needs
 shared-slice-read-wide-2 : tie.Need-shared-slice-read-wide-2
 shared-slice-read-wide-2 c =
     let s = c .before .before .before .before in
-    omega (arith, slot-in (now (s .args .work)) (s .pre .0 .slots) (s .args .i) (s .pre .1), c .before .wide .ensures .0)
+    omega (arith, slot-in (now (s .args .work)) (s .pre .0) (s .args .i) (s .pre .1), c .before .wide .ensures .0)
 
 wide-requires-2 : tie.Need-wide-requires-2
 wide-requires-2 c κs = search needs
@@ -47,7 +47,7 @@ mul-wide-3 c = search needs
 shared-slice-read-wide-3 : tie.Need-shared-slice-read-wide-3
 shared-slice-read-wide-3 c =
     let s = c .before .before .before .before .before .before in
-    omega (arith, slot-in (now (s .args .work)) (s .pre .0 .slots) (s .args .i) (s .pre .1), c .before .before .before .wide .ensures .0)
+    omega (arith, slot-in (now (s .args .work)) (s .pre .0) (s .args .i) (s .pre .1), c .before .before .before .wide .ensures .0)
 
 wide-requires-3 : tie.Need-wide-requires-3
 wide-requires-3 c κs = search needs
@@ -55,8 +55,8 @@ wide-requires-3 c κs = search needs
 returns : tie.Need-returns
 returns c =
     let s = c .before .before .before .before .before .before .before in (
-      slot-is (now (s .args .work)) (s .pre .0 .slots) (s .args .i) (s .pre .1) (c .before .before .before .before .wide .ensures .0) (c .before .before .wide2 .ensures .0) (c .wide3 .ensures .0),
-      (omega (arith, slot-in (now (s .args .work)) (s .pre .0 .slots) (s .args .i) (s .pre .1), c .before .before .before .before .wide .ensures .0), c .before .before .wide2 .ensures .1, c .wide3 .ensures .1),
+      slot-is (now (s .args .work)) (s .pre .0) (s .args .i) (s .pre .1) (c .before .before .before .before .wide .ensures .0) (c .before .before .wide2 .ensures .0) (c .wide3 .ensures .0),
+      (omega (arith, slot-in (now (s .args .work)) (s .pre .0) (s .args .i) (s .pre .1), c .before .before .before .before .wide .ensures .0), c .before .before .wide2 .ensures .1, c .wide3 .ensures .1),
     )
 
 pub slot-at-spec : {M : Type 1} → statement M

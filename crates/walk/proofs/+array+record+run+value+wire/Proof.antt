@@ -235,7 +235,7 @@ run-next-node-requires t c κs =
     let c8 = c3 .before .before .before .before .before in
     let a = c8 .args in
     let x = c3 .loop in
-    omega (arith, node-inside _ _ _ _ (run-fits (now (a .table)) (now (a .m)) (now (a .work)) (now (a .rows)) (a .modes) (a .node) (a .repeated) (a .count) (a .c) (a .n) (x .work) (x .rows) (x .k) (x .at) (x .core) (x .i) (x .inv) (c8 .pre .1 .2) (c8 .pre .1 .3) (c2 .loop-test .taken)) (c8 .pre .1 .2) .0, x .inv .ready .good .whole)
+    omega (arith, node-inside _ _ _ _ (run-fits (now (a .table)) (now (a .m)) (now (a .work)) (now (a .rows)) (a .modes) (a .node) (a .repeated) (a .count) (a .c) (a .n) (x .work) (x .rows) (x .k) (x .at) (x .core) (x .i) (x .inv) (c8 .pre .1 .2) (c8 .pre .1 .3) (c2 .loop-test .taken)) (c8 .pre .1 .2) .0, x .inv .ready .good .slots .whole)
 
 run-descend-requires : (t : ℕ) → run-lts.Need-descend-requires (run-uses t) (run-at t) run.Post run-Inv-loop run-μ-loop
 run-descend-requires t c κs =

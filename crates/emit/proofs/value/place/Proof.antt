@@ -1,8 +1,11 @@
 -- `emit::value::place` meets its contract.
+use mathlib.Core.Path.{_∙_}
 use denote.Ref.{now}
 use borrow.Author.Needs.{needs}
 use Rattle.store.specs.Laws.{is-some, is-none}
-use Rattle.store.specs.Words.{storeOf}
+use Rattle.store.specs.Keeping.{looked-up}
+use Rattle.chains.specs.Words.{storeOf}
+use Rattle.chains.specs.Laws.{keeping}
 use Rattle.emit.proofs.Values.{place-core, place-slot, place-none, place-new}
 use Rattle.emit.proofs.value.place.Statement.{statement}
 use Rattle.emit.proofs.value.place.Tie as tie
@@ -21,7 +24,7 @@ returns-2 c =
     let if1 = c .before .before .before .before .if1 in
     let find = c .before .before .before .find in
     let slot = c .before .slot in
-    place-slot _ _ _ _ _ (if1 .left) (is-some (find .ensures .0) (slot .given .1))
+    place-slot _ _ _ _ _ (if1 .left) (is-some (find .ensures .0 ∙ looked-up keeping _ _) (slot .given .1))
 
 enum-told : tie.Need-enum-told
 enum-told c = search needs
@@ -32,7 +35,7 @@ returns-3 c =
     let find = c .before .before .before .find in
     let enum-told = c .before .enum-told in
     let if2 = c .if2 in
-    place-none _ _ _ _ _ (if1 .left) (is-none (find .ensures .0) (enum-told .given .1)) (if2 .taken)
+    place-none _ _ _ _ _ (if1 .left) (is-none (find .ensures .0 ∙ looked-up keeping _ _) (enum-told .given .1)) (if2 .taken)
 
 returns-4 : tie.Need-returns-4
 returns-4 c =
@@ -40,7 +43,7 @@ returns-4 c =
     let find = c .before .before .before .find in
     let enum-told = c .before .enum-told in
     let if2 = c .if2 in
-    place-new _ _ _ _ _ (if1 .left) (is-none (find .ensures .0) (enum-told .given .1)) (if2 .left)
+    place-new _ _ _ _ _ (if1 .left) (is-none (find .ensures .0 ∙ looked-up keeping _ _) (enum-told .given .1)) (if2 .left)
 
 pub place-spec : {M : Type 1} → statement M
 place-spec =

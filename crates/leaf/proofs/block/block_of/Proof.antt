@@ -1,6 +1,7 @@
 -- `leaf::block::block_of` meets its contract. Assumes nothing.
 use borrow.Author.Needs.{needs}
 use Rattle.store.specs.Laws.{is-none, is-some}
+use Rattle.pages.specs.Words.{storeOf}
 use Rattle.leaf.proofs.Blocks.{block-known}
 use Rattle.leaf.proofs.block.block_of.Statement.{statement}
 use Rattle.leaf.proofs.block.block_of.Tie as tie
@@ -15,6 +16,7 @@ enum-told : tie.Need-enum-told
 enum-told c = search needs
 
 first-block-requires : tie.Need-first-block-requires
+unfolding storeOf
 first-block-requires c κs =
     let c3 = c .before .before .before in
     let c7 = c3 .before .before .before .before in
@@ -30,6 +32,7 @@ same-length-2 : tie.Need-same-length-2
 same-length-2 c = search needs
 
 returns-2 : tie.Need-returns-2
+unfolding storeOf
 returns-2 c =
     let c3 = c .before .before .before in
     let c7 = c3 .before .before .before .before in

@@ -1,5 +1,6 @@
 -- `leaf::block::first_block` meets its contract: the first of those that wait, if there is one. Assumes nothing.
 use borrow.Author.Needs.{needs}
+use Rattle.pages.specs.Words.{storeOf}
 use Rattle.leaf.proofs.Blocks.{inside-small, rest-blocks, gave-none, gave-left, gave-first}
 use Rattle.leaf.proofs.block.first_block.Statement.{statement}
 use Rattle.leaf.proofs.block.first_block.Tie as tie
@@ -30,6 +31,7 @@ returns c =
     gave-none (c3 .rest .ensures .0) (a .key) (c7 .pre .2) (c2 .next-block .ensures) (c .enum-told .given .1)
 
 touch-requires : tie.Need-touch-requires
+unfolding storeOf
 touch-requires c κs =
     let c2 = c .before .before in
     let c4 = c2 .before .before in
@@ -37,7 +39,7 @@ touch-requires c κs =
     let a = c9 .args in
     let i = gave-left (c4 .next-block .ensures) (c2 .block .given .1) .0 in
     let (l, h) = inside-small (c9 .pre .0 .small) i in
-    (c9 .pre .0 .good, c9 .pre .1, c9 .pre .2, l, h)
+    (c9 .pre .0 .good .slots, c9 .pre .1, c9 .pre .2, l, h)
 
 set-rest-requires : tie.Need-set-rest-requires
 set-rest-requires c κs =

@@ -3,6 +3,7 @@ use native.Mathlib.Omega.{arith}
 use denote.Ref.{now}
 use borrow.Author.Tests.{not-true, not-false}
 use borrow.Author.Needs.{needs}
+use Rattle.pages.specs.Laws.{count-is}
 use Rattle.leaf.proofs.Texts.{back-24, back-26, back-none, back-is}
 use Rattle.leaf.proofs.text.back.Statement.{statement}
 use Rattle.leaf.proofs.text.back.Tie as tie
@@ -33,12 +34,13 @@ returns-3 c =
     let c4 = c3 .before in
     let c6 = c4 .before .before in
     let a = c6 .args in
-    record { takes = λ m l g i. back-none (a .modes) (a .key) (record { leaf = l; dedup = a .dedup }) (a .k) (now (a .work)) (c4 .if1 .left) (c3 .is-numbered .ensures .is l) (not-false _ (c2 .if2 .left)) m (a .c) (omega (arith, c .before .count .ensures, c .if3 .taken)) }
+    record { takes = λ m l g i. back-none (a .modes) (a .key) (record { leaf = l; dedup = a .dedup }) (a .k) (now (a .work)) (c4 .if1 .left) (c3 .is-numbered .ensures .is l) (not-false _ (c2 .if2 .left)) m (a .c) (omega (arith, count-is (now (a .work)) (a .key) (c6 .pre .1), c .before .count .ensures .0, c .if3 .taken)) }
 
 get-requires : tie.Need-get-requires
 get-requires c κs =
     let c6 = c .before .before .before .before .before .before in
-    (c6 .pre .0, c6 .pre .1, omega (arith, c .before .count .ensures, c .if3 .left))
+    let a = c6 .args in
+    (c6 .pre .0, c6 .pre .1, omega (arith, count-is (now (a .work)) (a .key) (c6 .pre .1), c .before .count .ensures .0, c .if3 .left))
 
 returns-4 : tie.Need-returns-4
 returns-4 c =

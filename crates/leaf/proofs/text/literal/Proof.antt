@@ -4,6 +4,7 @@ use native.Mathlib.Omega.{arith}
 use denote.Ref.{now}
 use borrow.Author.Tests.{not-true, not-false}
 use borrow.Author.Needs.{needs}
+use Rattle.pages.specs.Laws.{total-is}
 use Rattle.leaf.specs.Meaning.{partOf, heldLeaf, heldOf, PartIn}
 use Rattle.leaf.specs.declared.block.Part.{Part}
 use Rattle.leaf.proofs.Texts.{literal-not, literal-28, literal-plain, literal-32, literal-noted, takes-good}
@@ -70,7 +71,7 @@ total-requires : tie.Need-total-requires
 total-requires c κs =
     let c6 = c .before .before .before .before .before .before in
     let c10 = c6 .before .before .before .before in
-    takes-good (c10 .take-bytes .ensures .0) (ap partOf (c6 .taken .given .1))
+    takes-good (c10 .take-bytes .ensures .0) (ap partOf (c6 .taken .given .1)) .slots .whole
 
 same-length-4 : tie.Need-same-length-4
 same-length-4 c = search needs
@@ -86,7 +87,7 @@ returns-4 c =
     let c16 = c12 .before .before .before .before in
     let a = c16 .args in
     literal-32 (now (a .m)) (a .modes) (a .key) (heldOf (a .leaf) (a .dedup)) (a .size) (a .c) (c12 .take-bytes .ensures .0) (ap partOf (c8 .taken .given .1)) (c6 .is-right .ensures)
-    (not-false _ (c5 .if1 .left)) (c4 .is-numbered .ensures .is (heldLeaf (a .leaf))) (not-false _ (c3 .if2 .left)) (omega (arith, c .before .total .ensures, c .if3 .taken))
+    (not-false _ (c5 .if1 .left)) (c4 .is-numbered .ensures .is (heldLeaf (a .leaf))) (not-false _ (c3 .if2 .left)) (omega (arith, c .before .total .ensures .0, c .if3 .taken))
 
 add-requires : tie.Need-add-requires
 add-requires c κs =
@@ -96,7 +97,8 @@ add-requires c κs =
     let c17 = c13 .before .before .before .before in
     let a = c17 .args in
     let p = subst (λ (p : Part). PartIn (now (a .m)) (a .size) p) (c9 .taken .given .1) (c13 .take-bytes .ensures .1) in
-    (takes-good (c13 .take-bytes .ensures .0) (ap partOf (c9 .taken .given .1)), c17 .pre .1, omega (arith, c2 .total .ensures, c .before .if3 .left), omega (arith, p .1, c17 .pre .0 .small), omega (arith, p .0, p .1, c17 .pre .0 .small))
+    let g = takes-good (c13 .take-bytes .ensures .0) (ap partOf (c9 .taken .given .1)) in
+    (g, c17 .pre .1, omega (arith, total-is _ (g .literals), c2 .total .ensures .0, c .before .if3 .left), omega (arith, p .1, c17 .pre .0 .small), omega (arith, p .0, p .1, c17 .pre .0 .small))
 
 same-length-5 : tie.Need-same-length-5
 same-length-5 c = search needs
@@ -115,7 +117,7 @@ returns-5 c =
     let c20 = c16 .before .before .before .before in
     let a = c20 .args in
     literal-noted (now (a .m)) (a .modes) (a .key) (heldOf (a .leaf) (a .dedup)) (a .size) (a .c) (c16 .take-bytes .ensures .0) (ap partOf (c12 .taken .given .1)) (c10 .is-right .ensures)
-    (not-false _ (c9 .if1 .left)) (c8 .is-numbered .ensures .is (heldLeaf (a .leaf))) (not-false _ (c7 .if2 .left)) (omega (arith, c5 .total .ensures, c4 .if3 .left)) (c2 .add .ensures)
+    (not-false _ (c9 .if1 .left)) (c8 .is-numbered .ensures .is (heldLeaf (a .leaf))) (not-false _ (c7 .if2 .left)) (omega (arith, c5 .total .ensures .0, c4 .if3 .left)) (c2 .add .ensures)
 
 pub literal-spec : {M : Type 1} → statement M
 literal-spec =

@@ -23,7 +23,7 @@ slot-at-requires : tie.Need-slot-at-requires Inv-loop μ-loop
 slot-at-requires c κs =
     let c2 = c .before .before in
     let c4 = c2 .before .before in
-    (c4 .pre, omega (arith, c .loop-test .taken, c2 .slot-count .ensures .0))
+    (c4 .pre .slots, omega (arith, c .loop-test .taken, c2 .slot-count .ensures .0))
 
 returns : tie.Need-returns Inv-loop μ-loop
 returns c =

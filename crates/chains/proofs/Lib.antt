@@ -1,0 +1,6 @@
+-- Lemmas that the proofs cite.
+mod Lanes
+mod Places
+mod Chains
+mod Linking
+mod Meeting

@@ -1,0 +1,4 @@
+-- What the words mean, and their laws.
+pub mod Words
+pub mod Meaning
+pub mod Laws
