@@ -1,4 +1,4 @@
-//! Rows that are worst for the library's writer, most of them for its search for an equal literal. A text has a hash of
+//! Rows that are worst for the library's search for an equal literal. A text has a hash of
 //! 27 bits. Twelve of them, with its key and size, choose the chain that it is looked for in; a literal there that has
 //! the same size and all the bits is compared with it. If they differ, the text is looked for anew, among those that
 //! were last compared with this literal and have as many pairs of first bytes in common with it.
@@ -39,7 +39,7 @@ impl List {
 }
 
 /// Each list is made when its turn comes.
-pub fn lists() -> [fn() -> List; 9] {
+pub fn lists() -> [fn() -> List; 8] {
     [
         || far_behind(256),
         || far_behind(512),
@@ -49,7 +49,6 @@ pub fn lists() -> [fn() -> List; 9] {
         one_chain_twice,
         one_hash,
         many_sizes,
-        mixed_letters,
     ]
 }
 
@@ -178,22 +177,6 @@ fn many_sizes() -> List {
         &places,
         pool,
         43,
-    )
-}
-
-/// Worst for the check of a text, not for the search: one long text, of letters of one and two bytes in no order.
-fn mixed_letters() -> List {
-    let mut rng = Rng::new(1);
-    let mut text = String::new();
-    while text.len() < 57_000 {
-        text.push(if rng.one_in(2) { 'a' } else { 'é' });
-    }
-    let places = vec![[0, text.len() as u64]; MAX_ROWS - 1];
-    List::new(
-        "57,000 bytes of mixed letters, again and again",
-        &places,
-        text.into_bytes(),
-        0,
     )
 }
 
