@@ -31,9 +31,10 @@
  *   field is absent, a row of that kind stands for all below.
  *
  * TEXT
- *   A STRING is UTF-8 by the feed's rule: 00 to 7F alone; C0 to DF and one byte 80 to BF; E0 to EF and two; F0 to F7
- *   and three. So it may have overlong forms, surrogates, numbers beyond 10FFFF, and zero bytes; it does not end in
- *   one.
+ *   A STRING is UTF-8 by RFC 3629: 00 to 7F alone; C2 to DF and one byte 80 to BF; E0 to EF and two; F0 to F4 and
+ *   three; where the byte after E0 is A0 to BF, after ED 80 to 9F, after F0 90 to BF, after F4 80 to 8F. So it has the
+ *   code points 0 to 10FFFF without D800 to DFFF, each in its shortest form. It may have zero bytes, and none is added
+ *   to end it. Reading and writing judge it; argo_look and argo_part do not, so a row that was not read may be no text.
  *
  * ANSWERS
  *   Every call returns, whatever the buffers hold, and the same arguments always have the same answer. An answer is a
@@ -107,7 +108,7 @@ enum {
     ARGO_ERROR = 25,          /* an error under NULLABLE, without mode 2 */
     ARGO_BACKREFERENCE = 26,  /* a number that was not given, of a key without numbers, or in mode 5 */
     ARGO_CUT = 27,            /* a piece ends before the value does */
-    ARGO_TEXT = 28,           /* not UTF-8; second: when writing, the row */
+    ARGO_TEXT = 28,           /* a STRING is not UTF-8, see TEXT; second: when writing, the row */
     ARGO_NO_BLOCK = 29,       /* no block is left for a key that is touched now */
     ARGO_UNUSED = 30,         /* bytes or blocks are left at the end */
     ARGO_MANY_ROWS = 31,      /* one row more than ARGO_ROWS, or than the whole rows that were lent */

@@ -24,6 +24,7 @@ pub fn run() {
     drop(black_box(vec![1u8; 16 << 20]));
     let pairs = scenes::pairs();
     let small = scenes::small();
+    let texts = scenes::long_texts();
     let tables = scenes::tables();
     let files: Vec<Vec<u8>> = tables.iter().flatten().map(|(_, t)| file(t)).collect();
     let mut calls = Vec::new();
@@ -34,6 +35,7 @@ pub fn run() {
     }
     calls.extend(files.iter().flat_map(|file| check_calls(file)));
     calls.extend(small.iter().flat_map(|scene| write_calls(scene, 0)));
+    calls.extend(texts.iter().flat_map(|texts| text_calls(texts)));
     let mut times = Times(best(calls).into_iter());
 
     println!(
@@ -43,6 +45,7 @@ pub fn run() {
     writing(&pairs, &mut times);
     checking(&tables, &mut times);
     whole_calls(&small, &mut times);
+    long_texts(&texts, &mut times);
 }
 
 /// One call on each of the lists that are worst for the writer: with the hash table, and the library. Each line is
@@ -131,6 +134,42 @@ fn write_calls(scene: &Scene, modes: u64) -> [Call<'_>; 4] {
             model(Search::OneByOne, &mut one_by_one)
         }),
         linked(move || ffi::write(table, modes, rows, pool, &mut lent, &mut work.0)),
+    ]
+}
+
+/// The check of the standard library alone; then the model and the library, each reading a message that holds just the
+/// text, and the library writing it. Each call takes the next text.
+fn text_calls(scenes: &[Scene]) -> [Call<'_>; 4] {
+    let turns = || scenes.iter().cycle();
+    let [mut checked, mut read, mut read_too, mut written] = std::array::from_fn(|_| turns());
+    let [mut rows, mut lent_rows] = [[0; 3]; 2];
+    let room = scenes.iter().map(|scene| scene.message.len()).max();
+    let mut lent = vec![0; room.unwrap_or(0)];
+    let [mut owed, mut work, mut work_too] = std::array::from_fn(|_| Work::new());
+    [
+        call(move || {
+            let text = &checked.next().expect("a text").pool;
+            let valid = std::str::from_utf8(black_box(text)).is_ok();
+            Answer {
+                number: u64::from(!valid),
+                second: 0,
+            }
+        }),
+        call(move || {
+            let Scene { table, message, .. } = read.next().expect("a text");
+            owed.zero();
+            read::read(table, message, &mut rows, WORK_WORDS)
+        }),
+        linked(move || {
+            let Scene { table, message, .. } = read_too.next().expect("a text");
+            ffi::read(table, message, &mut lent_rows, &mut work.0)
+        }),
+        linked(move || {
+            let Scene {
+                table, rows, pool, ..
+            } = written.next().expect("a text");
+            ffi::write(table, 0, rows, pool, &mut lent, &mut work_too.0)
+        }),
     ]
 }
 
@@ -304,6 +343,22 @@ fn whole_calls(scenes: &[Scene], times: &mut Times) {
         let mut line = table.call(&scene.name, scene.count());
         line.each(&[bare, hash, library]);
         line.ratios(&[library / hash, library / bare]);
+    }
+    table.print();
+}
+
+/// Messages of one long text, whose check is nearly all that there is to do; with ASCII the zeros of the work count too.
+fn long_texts(scenes: &[[Scene; 8]], times: &mut Times) {
+    let mut table = Table::new(
+        "a message of one text, µs for a call | bytes | from_utf8 alone | model reads | library reads \
+         | to from_utf8 | library writes",
+    );
+    for [scene, ..] in scenes {
+        let [check, model, library, writing] = times.next();
+        let mut line = table.long_call(&scene.name, scene.pool.len());
+        line.each(&[check, model, library]);
+        line.ratios(&[library / check]);
+        line.each(&[writing]);
     }
     table.print();
 }

@@ -1,7 +1,7 @@
-//! Rows that are worst for the library's search for an equal literal. A text has a hash of
-//! 27 bits. Twelve of them, with its key and size, choose the chain that it is looked for in; a literal there that has
-//! the same size and all the bits is compared with it. If they differ, the text is looked for anew, among those that
-//! were last compared with this literal and have as many pairs of first bytes in common with it.
+//! Rows that are worst for the library's writer, all but the last for its search for an equal literal. A text has a
+//! hash of 27 bits. Twelve of them, with its key and size, choose the chain that it is looked for in; a literal there
+//! that has the same size and all the bits is compared with it. If they differ, the text is looked for anew, among those
+//! that were last compared with this literal and have as many pairs of first bytes in common with it.
 
 use std::collections::HashSet;
 use std::iter::repeat;
@@ -39,7 +39,7 @@ impl List {
 }
 
 /// Each list is made when its turn comes.
-pub fn lists() -> [fn() -> List; 8] {
+pub fn lists() -> [fn() -> List; 9] {
     [
         || far_behind(256),
         || far_behind(512),
@@ -49,6 +49,7 @@ pub fn lists() -> [fn() -> List; 8] {
         one_chain_twice,
         one_hash,
         many_sizes,
+        mixed_letters,
     ]
 }
 
@@ -177,6 +178,23 @@ fn many_sizes() -> List {
         &places,
         pool,
         43,
+    )
+}
+
+/// Worst for the check of a text, not for the search: one long text of letters of one and two bytes in no order, as
+/// often as there may be rows.
+fn mixed_letters() -> List {
+    let mut rng = Rng::new(1);
+    let mut text = String::new();
+    while text.len() < 57_000 {
+        text.push(if rng.one_in(2) { 'a' } else { 'é' });
+    }
+    let places = vec![[0, text.len() as u64]; MAX_ROWS - 1];
+    List::new(
+        "57,000 bytes of mixed letters, again and again",
+        &places,
+        text.into_bytes(),
+        0,
     )
 }
 

@@ -97,7 +97,7 @@ impl Options {
             count: 1_000,
             kinds: gen::KINDS.to_string(),
             trace: false,
-            blocks: 10,
+            blocks: 11,
             with: None,
         };
         for pair in words.chunks(2) {

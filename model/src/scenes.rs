@@ -3,8 +3,12 @@
 use crate::columns::commas;
 use crate::gen::fixed::{array_chain, table_all, table_e, table_s};
 use crate::night::Night;
+use crate::rng::Rng;
 use crate::table::{self, file, Node};
 use crate::{rows, write, MAX_BYTES, NO_DEDUPLICATION, WORK_WORDS};
+
+/// Bytes of a long text, or one less where the last letter does not fit.
+const LONG: usize = 60_000;
 
 /// A tree with its table and its message; and how long the message is in mode 5.
 pub struct Scene {
@@ -69,6 +73,46 @@ pub fn small() -> Vec<Scene> {
         ),
         array("ten different texts", 10, 0, |i| format!("{i:06}")),
         Scene::new("a night of one job", &Night::nodes(), job, pool),
+    ]
+}
+
+/// Messages that hold one text each and nothing else. There are some of each sort, for a processor learns a single text
+/// of 60,000 bytes by heart, and then foresees where its letters end.
+pub fn long_texts() -> Vec<[Scene; 8]> {
+    let mut rng = Rng::new(1);
+    let letter = |rng: &mut Rng| char::from_u32('a' as u32 + rng.below(26) as u32);
+    let greek = |rng: &mut Rng| char::from_u32('α' as u32 + rng.below(25) as u32);
+    let chinese = |rng: &mut Rng| char::from_u32('一' as u32 + rng.below(20_000) as u32);
+    let mut texts = |name: &str, next: &dyn Fn(usize, &mut Rng) -> Option<char>| {
+        std::array::from_fn(|_| {
+            let mut text = String::new();
+            for i in 0.. {
+                let next = next(i, &mut rng).expect("a letter");
+                if text.len() + next.len_utf8() > LONG {
+                    break;
+                }
+                text.push(next);
+            }
+            let row = vec![rows::STRING, 0, text.len() as u64];
+            let nodes = [table::BLOCK, table::STRING].map(|kind| Node::new(kind, 0, 0));
+            Scene::new(name, &nodes, row, text.into_bytes())
+        })
+    };
+    vec![
+        texts("ASCII", &|_, rng| letter(rng)),
+        texts("two bytes each, Greek", &|_, rng| greek(rng)),
+        texts("three bytes each, Chinese", &|_, rng| chinese(rng)),
+        texts("two and three bytes in turn", &|i, rng| match i % 2 {
+            0 => greek(rng),
+            _ => chinese(rng),
+        }),
+        texts(
+            "one and two bytes in no order",
+            &|_, rng| match rng.one_in(2) {
+                true => letter(rng),
+                false => greek(rng),
+            },
+        ),
     ]
 }
 

@@ -16,7 +16,7 @@
 use std::collections::HashSet;
 
 use crate::case::{Case, Reply};
-use crate::gen::{fixed, limits, Cases};
+use crate::gen::{fixed, limits, texts, Cases};
 use crate::rng::Rng;
 use crate::rows::Seen;
 use crate::Answer;
@@ -42,8 +42,8 @@ pub struct Store {
 }
 
 impl Store {
-    /// The sheet's cases, the limits and those given; then, by turns, some of the fixed list and of the generator,
-    /// until one does not fit any more.
+    /// The sheet's cases, the limits, those given and the texts; then, by turns, some of the fixed list and of the
+    /// generator, until one does not fit any more.
     pub fn new(seed: u64, kinds: &str, blocks: usize, given: Vec<Case>) -> Store {
         let mut store = Store {
             file: Vec::new(),
@@ -52,7 +52,7 @@ impl Store {
             left_out: 0,
         };
         let chosen = fixed::sheet().into_iter().chain(limits::cases());
-        for case in chosen.chain(given) {
+        for case in chosen.chain(given).chain(texts::chosen()) {
             if kinds.contains(case.kind()) && !store.add(&case) {
                 store.left_out += 1;
             }

@@ -1,7 +1,5 @@
 //! A checked table, and the buffers that calls are lent.
 
-use std::borrow::Cow;
-
 use crate::ffi;
 use crate::modes::Modes;
 use crate::refusal::{Call, Refusal};
@@ -52,9 +50,8 @@ impl Table {
     /// Reads a message, with buffers of its own; for many messages, [`Codec::read`] has them once.
     pub fn read<'m>(&self, message: &'m [u8]) -> Result<Rows<'static, 'm>, Refusal> {
         let mut rows = vec![0; 3 * MAX_ROWS];
-        let count = read(self, message, &mut rows, &mut work())?;
-        rows.truncate(3 * count);
-        Ok(Rows::new(Cow::Owned(rows), message))
+        let judged = read(self, message, &mut rows, &mut work())?;
+        Ok(Rows::new(judged.into_owned()))
     }
 
     /// Writes a tree, with buffers of its own; for many trees, [`Codec::write`] has them once.
@@ -96,8 +93,8 @@ impl Codec {
         table: &Table,
         message: &'m [u8],
     ) -> Result<Rows<'c, 'm>, Refusal> {
-        let count = read(table, message, &mut self.rows, &mut self.work)?;
-        Ok(Rows::new(Cow::Borrowed(&self.rows[..3 * count]), message))
+        let judged = read(table, message, &mut self.rows, &mut self.work)?;
+        Ok(Rows::new(judged))
     }
 
     /// Writes a tree. The message stays in the codec until the next call.
@@ -125,13 +122,15 @@ impl Default for Codec {
     }
 }
 
-fn read(
+fn read<'c, 'm>(
     table: &Table,
-    message: &[u8],
-    rows: &mut [u64],
+    message: &'m [u8],
+    rows: &'c mut [u64],
     work: &mut [u32],
-) -> Result<usize, Refusal> {
-    counted(Call::Read, ffi::read(&table.bytes, message, rows, work))
+) -> Result<ffi::Judged<'c, 'm>, Refusal> {
+    let (answer, judged) = ffi::read(&table.bytes, message, rows, work);
+    counted(Call::Read, answer)?;
+    Ok(judged)
 }
 
 fn write(
@@ -150,4 +149,49 @@ fn write(
         work,
     );
     counted(Call::Write, answer)
+}
+
+#[cfg(test)]
+mod tests {
+    use super::*;
+    use crate::value::kind;
+
+    // A text, and an array of texts.
+    const TEXT: &[u8] = b"AWT\x01\0\x02\0\x09\x02\0\0\x01\0\0\0";
+    const TEXTS: &[u8] = b"AWT\x01\0\x03\0\x08\0\0\0\x09\x02\0\0\x01\0\0\0";
+
+    /// Writes rows, of which the last is a string of these bytes: a tree cannot hold one that is no text.
+    fn write_bytes(
+        table: &[u8],
+        rows: &[[u64; 3]],
+        bytes: &[u8],
+        work: &mut [u32],
+    ) -> Result<usize, Refusal> {
+        let last = [kind::STRING, 0, bytes.len() as u64];
+        let rows = [rows.concat(), last.to_vec()].concat();
+        let answer = ffi::write(table, 0, &rows, bytes, &mut [0; 64], work);
+        counted(Call::Write, answer)
+    }
+
+    /// Each lead, with both sides of each bound for the byte after it: what is written is what a `str` may hold.
+    #[test]
+    fn rows_28() {
+        let mut work = work();
+        let array = [[kind::ARRAY, 2, 0], [kind::STRING, 0, 0]];
+        for lead in 0..=0xff {
+            for second in [0x7f, 0x80, 0x8f, 0x90, 0x9f, 0xa0, 0xbf, 0xc0] {
+                for length in 1..=4 {
+                    let bytes = &[lead, second, 0xbf, 0x80][..length];
+                    let root = write_bytes(TEXT, &[], bytes, &mut work);
+                    let entry = write_bytes(TEXTS, &array, bytes, &mut work);
+                    if std::str::from_utf8(bytes).is_ok() {
+                        assert!(root.is_ok() && entry.is_ok(), "{bytes:x?}");
+                    } else {
+                        let refused = |row| Err(Refusal::Text { row: Some(row) });
+                        assert_eq!((root, entry), (refused(0), refused(2)), "{bytes:x?}");
+                    }
+                }
+            }
+        }
+    }
 }

@@ -11,7 +11,7 @@
 //! let mut tree = Tree::new();
 //! tree.push(Value::Array(3));
 //! for state in ["PASSED", "KILLED", "PASSED"] {
-//!     tree.push(Value::str(state));
+//!     tree.push(Value::Str(state));
 //! }
 //! let message = table.write(Modes::NONE, &tree)?;
 //! assert_eq!(message, b"\x00\x18PASSEDKILLED\x08\x06\x0c\x0c\x07");
@@ -21,10 +21,10 @@
 //! let rows = codec.read(&table, &message)?;
 //! for row in rows.children(0) {
 //!     if let Some(Value::Str(text)) = rows.get(row) {
-//!         println!("{}", text.as_str().unwrap());
+//!         println!("{text}");
 //!     }
 //! }
-//! assert_eq!(rows.get(3), Some(Value::str("PASSED")));
+//! assert_eq!(rows.get(3), Some(Value::Str("PASSED")));
 //!
 //! // A message that is cut is refused, with the number of the feed's rules.
 //! let cut = codec.read(&table, &message[..18]).unwrap_err();
@@ -51,7 +51,7 @@ pub use modes::Modes;
 pub use refusal::Refusal;
 pub use rows::{Children, Iter, Rows};
 pub use tree::Tree;
-pub use value::{look, Text, Value};
+pub use value::{look, Value};
 
 /// Rows that a message has at most.
 pub const MAX_ROWS: usize = 8_192;

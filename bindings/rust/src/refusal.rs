@@ -49,9 +49,10 @@ pub enum Refusal {
     Backreference,
     /// 27: a piece ends before the value does.
     Cut,
-    /// 28: a string is not UTF-8.
+    /// 28: a string is not UTF-8 by RFC 3629, which is what a `str` may hold. A [`Tree`](crate::Tree) has no other
+    /// strings, so that only reading and [`look`](crate::look) answer it.
     Text {
-        /// The row, when writing.
+        /// The row that was looked at; none when reading.
         row: Option<usize>,
     },
     /// 29: no block is left for a key that is touched now.

@@ -1,8 +1,8 @@
 //! Rows that were read.
 
-use std::borrow::Cow;
 use std::iter::FusedIterator;
 
+use crate::ffi::Judged;
 use crate::modes::Modes;
 use crate::value::{look, Value};
 
@@ -13,25 +13,27 @@ use crate::value::{look, Value};
 /// (`'c`).
 #[derive(Clone, Debug)]
 pub struct Rows<'c, 'm> {
-    words: Cow<'c, [u64]>,
-    message: &'m [u8],
+    judged: Judged<'c, 'm>,
 }
 
 impl<'c, 'm> Rows<'c, 'm> {
-    /// The words are whole rows that the library made of this message, so that looking at one is never refused.
-    pub(crate) fn new(words: Cow<'c, [u64]>, message: &'m [u8]) -> Rows<'c, 'm> {
-        Rows { words, message }
+    /// The library made them of their message, so that looking at one is never refused.
+    pub(crate) fn new(judged: Judged<'c, 'm>) -> Rows<'c, 'm> {
+        Rows { judged }
     }
 
     /// How many rows there are; a message has one at least.
     #[allow(clippy::len_without_is_empty)]
     pub fn len(&self) -> usize {
-        self.words.len() / 3
+        self.words().len() / 3
     }
 
-    /// The value of a row; none beyond the rows.
+    /// The value of a row; none beyond the rows. A text is not tested again, since reading has done so.
     pub fn get(&self, row: usize) -> Option<Value<'m>> {
-        look(&self.words, self.message, row).ok()
+        match self.judged.text(row) {
+            Some(text) => Some(Value::Str(text)),
+            None => look(self.words(), self.message(), row).ok(),
+        }
     }
 
     /// All values, in order.
@@ -63,17 +65,17 @@ impl<'c, 'm> Rows<'c, 'm> {
 
     /// The modes of the message.
     pub fn modes(&self) -> Modes {
-        Modes::of_header(self.message)
+        Modes::of_header(self.message())
     }
 
-    /// The rows, three words each; places are counted in the message. [`look`](crate::look) takes them.
+    /// The rows, three words each; places are counted in the message. [`look`] takes them.
     pub fn words(&self) -> &[u64] {
-        &self.words
+        self.judged.words()
     }
 
     /// The message.
     pub fn message(&self) -> &'m [u8] {
-        self.message
+        self.judged.message()
     }
 }
 

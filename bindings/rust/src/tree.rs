@@ -21,7 +21,8 @@ impl Tree {
         Tree::default()
     }
 
-    /// Adds the next value. Whether it fits is judged when the tree is written.
+    /// Adds the next value. Whether it fits is judged when the tree is written. A `str` is always text there, so no tree
+    /// is refused with [`Refusal::Text`](crate::Refusal::Text).
     pub fn push(&mut self, value: Value) -> &mut Tree {
         let row = match value {
             Value::Null => [kind::NULL, 0, 0],

@@ -1,9 +1,5 @@
 //! One value of a tree.
 
-use std::borrow::Cow;
-use std::fmt;
-use std::str::Utf8Error;
-
 use crate::ffi;
 use crate::refusal::{Call, Refusal};
 
@@ -25,7 +21,7 @@ pub enum Value<'m> {
     /// [`Value::float_bits`] hands the bits out.
     Float(f64),
     /// A STRING.
-    Str(Text<'m>),
+    Str(&'m str),
     /// BYTES.
     Bytes(&'m [u8]),
     /// A FIXED, with the length that the table gives.
@@ -36,12 +32,7 @@ pub enum Value<'m> {
     Array(usize),
 }
 
-impl<'m> Value<'m> {
-    /// A string's value.
-    pub fn str(text: &'m str) -> Value<'m> {
-        Value::Str(Text::from(text))
-    }
-
+impl Value<'_> {
     /// The bits of a float.
     pub fn float_bits(self) -> Option<u64> {
         match self {
@@ -76,60 +67,6 @@ impl PartialEq for Value<'_> {
 
 impl Eq for Value<'_> {}
 
-/// The bytes of a STRING.
-///
-/// The feed's rule for UTF-8 is looser than Rust's: it takes overlong forms, surrogates and numbers beyond 10FFFF. So a
-/// text is bytes that the library has tested by the feed's rule, and [`Text::as_str`] tests them by Rust's.
-#[derive(Clone, Copy, PartialEq, Eq, Hash, PartialOrd, Ord)]
-pub struct Text<'m>(&'m [u8]);
-
-impl<'m> Text<'m> {
-    /// A text of these bytes. Writing tests them by the feed's rule, and refuses others with
-    /// [`Refusal::Text`](crate::Refusal::Text).
-    pub const fn from_bytes(bytes: &'m [u8]) -> Text<'m> {
-        Text(bytes)
-    }
-
-    /// Its bytes.
-    pub const fn as_bytes(self) -> &'m [u8] {
-        self.0
-    }
-
-    /// The text, where it is UTF-8 by Rust's rule too.
-    pub fn as_str(self) -> Result<&'m str, Utf8Error> {
-        std::str::from_utf8(self.0)
-    }
-
-    /// The text, with U+FFFD for what is not UTF-8 by Rust's rule.
-    pub fn to_string_lossy(self) -> Cow<'m, str> {
-        String::from_utf8_lossy(self.0)
-    }
-}
-
-impl<'m> From<&'m str> for Text<'m> {
-    fn from(text: &'m str) -> Text<'m> {
-        Text(text.as_bytes())
-    }
-}
-
-impl PartialEq<str> for Text<'_> {
-    fn eq(&self, text: &str) -> bool {
-        self.0 == text.as_bytes()
-    }
-}
-
-impl PartialEq<&str> for Text<'_> {
-    fn eq(&self, text: &&str) -> bool {
-        self == *text
-    }
-}
-
-impl fmt::Debug for Text<'_> {
-    fn fmt(&self, f: &mut fmt::Formatter) -> fmt::Result {
-        write!(f, "\"{}\"", self.0.escape_ascii())
-    }
-}
-
 /// Kinds of rows, by their number.
 pub(crate) mod kind {
     pub const NULL: u64 = 0;
@@ -147,6 +84,9 @@ pub(crate) mod kind {
 
 /// Looks at one row of three words each, wherever the words come from; its place, if it has one, must be inside of the
 /// bytes. Refuses with [`Refusal::NoRow`] or [`Refusal::BadRow`].
+///
+/// The library judges texts when it reads and writes, and these rows may come from neither. So the bytes of a string are
+/// tested here, and refused with [`Refusal::Text`] if they are no text. [`Rows::get`](crate::Rows::get) needs no test.
 pub fn look<'m>(words: &[u64], bytes: &'m [u8], index: usize) -> Result<Value<'m>, Refusal> {
     let seen = ffi::look(words, bytes, index);
     if let Some(refusal) = Refusal::of(Call::Look, seen.number, seen.second) {
@@ -160,7 +100,10 @@ pub fn look<'m>(words: &[u64], bytes: &'m [u8], index: usize) -> Result<Value<'m
         kind::TRUE => Value::Bool(true),
         kind::INTEGER => Value::Int(seen.a as i64),
         kind::FLOAT => Value::Float(f64::from_bits(seen.a)),
-        kind::STRING => Value::Str(Text::from_bytes(part())),
+        kind::STRING => match std::str::from_utf8(part()) {
+            Ok(text) => Value::Str(text),
+            Err(_) => return Err(Refusal::Text { row: Some(index) }),
+        },
         kind::BYTES => Value::Bytes(part()),
         kind::FIXED => Value::Fixed(part()),
         kind::RECORD => Value::Record(seen.a as usize),

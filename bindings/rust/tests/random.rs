@@ -1,8 +1,8 @@
-//! Random trees under random tables: written and read again, and gone over by their children.
+//! Random trees under random tables: written and read again, and gone over by their children. Random bytes as texts.
 
 mod common;
 
-use argo::{Codec, Modes, Rows, Table, Text, Tree, Value};
+use argo::{Codec, Modes, Refusal, Rows, Table, Tree, Value};
 use common::file;
 
 /// Xorshift; the same numbers in each run.
@@ -104,7 +104,7 @@ impl Type {
             Type::Block(2) => values.push(Value::Float(f64::from_bits(random.next()))),
             Type::Block(3) => values.push(Value::Bytes(text.as_bytes())),
             Type::Block(4) => values.push(Value::Fixed(b"\x00\xff")),
-            Type::Block(_) => values.push(Value::Str(Text::from(text))),
+            Type::Block(_) => values.push(Value::Str(text)),
             Type::Nullable(_) if random.below(3) == 0 => values.push(Value::Null),
             Type::Nullable(of) => of.values(random, values),
             Type::Array(of) => {
@@ -156,4 +156,54 @@ fn random_trees_survive() {
         assert_eq!(rows.iter().collect::<Vec<_>>(), values);
         assert_eq!((rows.modes(), walk(&rows, 0)), (modes, values.len()));
     }
+}
+
+/// Up to four code points, of one to four bytes each.
+fn text(random: &mut Random) -> String {
+    let mut text = String::new();
+    for _ in 0..random.below(5) {
+        let below = [0x80, 0x800, 0x1_0000, 0x11_0000][random.below(4) as usize];
+        text.extend(char::from_u32(random.below(below) as u32));
+    }
+    text
+}
+
+/// The ends of the ranges in the grammar of RFC 3629, with what stands next to them.
+const ENDS: [u8; 23] = [
+    0x00, 0x7f, 0x80, 0x8f, 0x90, 0x9f, 0xa0, 0xbf, 0xc0, 0xc1, 0xc2, 0xdf, 0xe0, 0xe1, 0xec, 0xed,
+    0xee, 0xef, 0xf0, 0xf1, 0xf3, 0xf4, 0xf5,
+];
+
+/// What is read as a text is what a `str` may hold: tried on random bytes, on ends of ranges, and on texts that are cut
+/// or have one byte changed.
+#[test]
+fn a_text_is_what_rust_takes_for_one() {
+    let mut random = Random(3_629);
+    let mut codec = Codec::with_rows(2);
+    let texts = common::texts();
+    let mut taken = 0;
+    for _ in 0..40_000 {
+        let mut bytes = text(&mut random).into_bytes();
+        let at = random.below(bytes.len() as u64 + 1) as usize;
+        match random.below(4) {
+            0 => bytes.fill_with(|| random.next() as u8),
+            1 => bytes.fill_with(|| ENDS[random.below(23) as usize]),
+            2 => bytes.truncate(at),
+            _ => {
+                if let Some(byte) = bytes.get_mut(at) {
+                    *byte = ENDS[random.below(23) as usize];
+                }
+            }
+        }
+        let message = common::one_text(&bytes);
+        match (codec.read(&texts, &message), std::str::from_utf8(&bytes)) {
+            (Ok(rows), Ok(text)) => {
+                assert_eq!(rows.get(1), Some(Value::Str(text)));
+                taken += 1;
+            }
+            (Err(refusal), Err(_)) => assert_eq!(refusal, Refusal::Text { row: None }),
+            (read, _) => panic!("{bytes:x?}: read {}", read.is_ok()),
+        }
+    }
+    assert!((10_000..30_000).contains(&taken), "{taken}");
 }

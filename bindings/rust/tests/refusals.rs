@@ -1,9 +1,10 @@
-//! Each refusal that can be reached, with the node or row that it names. Two cannot: 1, since the wrapper always lends
-//! enough work, and 33, since a checked table has no such path.
+//! Each refusal that can be reached, with the node or row that it names. Three cannot: 1, since the wrapper always lends
+//! enough work; 33, since a checked table has no such path; and 28 when writing, since a tree holds `str`s. That one is
+//! tried on rows in `src/codec.rs`.
 
 mod common;
 
-use argo::{look, Codec, Modes, Refusal, Table, Text, Tree, Value};
+use argo::{look, Codec, Modes, Refusal, Table, Tree, Value};
 use common::*;
 
 fn refused_table(bytes: &[u8]) -> Refusal {
@@ -189,6 +190,36 @@ fn messages_32() {
     );
 }
 
+/// Both sides of each bound of RFC 3629.
+#[test]
+fn messages_28() {
+    let bounds: [(&[u8], &[u8]); 9] = [
+        // The shortest form, of two, three and four bytes.
+        (b"\xc1\xbf", b"\xc2\x80"),
+        (b"\xe0\x9f\xbf", b"\xe0\xa0\x80"),
+        (b"\xf0\x8f\xbf\xbf", b"\xf0\x90\x80\x80"),
+        // The halves of surrogate pairs, D800 to DFFF.
+        (b"\xed\xa0\x80", b"\xed\x9f\xbf"),
+        (b"\xed\xbf\xbf", b"\xee\x80\x80"),
+        // 10FFFF, and leads that would go beyond it.
+        (b"\xf4\x90\x80\x80", b"\xf4\x8f\xbf\xbf"),
+        (b"\xf5\x80\x80\x80", b"\xf3\xbf\xbf\xbf"),
+        // Bytes behind a lead are 80 to BF.
+        (b"\xdf\x7f", b"\xdf\x80"),
+        (b"\xdf\xc0", b"\xdf\xbf"),
+    ];
+    for (bad, good) in bounds {
+        assert_eq!(
+            refused_message(&texts(), &one_text(bad)),
+            Refusal::Text { row: None }
+        );
+        let message = one_text(good);
+        let rows = texts().read(&message).unwrap();
+        let text = std::str::from_utf8(good).unwrap();
+        assert_eq!(rows.get(1), Some(Value::Str(text)));
+    }
+}
+
 #[test]
 fn trees_40_and_41() {
     let one = [Value::Array(0)];
@@ -209,12 +240,12 @@ fn trees_40_and_41() {
 }
 
 #[test]
-fn trees_42_and_28_name_the_row() {
+fn trees_42_names_the_row() {
     let unfit = |row| Refusal::Unfit { row };
     // Missing: the row count. An entry of another kind, one that is left over, a null where there is none.
     assert_eq!(refused_tree(&texts(), &[]), unfit(0));
     assert_eq!(
-        refused_tree(&texts(), &[Value::Array(2), Value::str("")]),
+        refused_tree(&texts(), &[Value::Array(2), Value::Str("")]),
         unfit(2)
     );
     assert_eq!(
@@ -227,30 +258,20 @@ fn trees_42_and_28_name_the_row() {
     );
     assert_eq!(refused_tree(&texts(), &[Value::Null]), unfit(0));
     assert_eq!(refused_tree(&pair(), &[Value::Record(1)]), unfit(0));
-    let bad = Value::Str(Text::from_bytes(b"\x80"));
-    assert_eq!(
-        refused_tree(&texts(), &[Value::Array(2), Value::str("a"), bad]),
-        Refusal::Text { row: Some(2) }
-    );
-    // A text as the root: row 0.
-    assert_eq!(
-        refused_tree(&table(&[block(0), STRING]), &[bad]),
-        Refusal::Text { row: Some(0) }
-    );
 }
 
 #[test]
 fn trees_32_and_43() {
     let names: Vec<String> = (0..4_097).map(|n| n.to_string()).collect();
     let mut values = vec![Value::Array(names.len())];
-    values.extend(names.iter().map(|name| Value::str(name)));
+    values.extend(names.iter().map(|name| Value::Str(name)));
     assert_eq!(refused_tree(&texts(), &values), Refusal::ManyLiterals);
     // In mode 5 nothing is numbered.
     let tree: Tree = values.into_iter().collect();
     assert!(texts().write(Modes::NO_DEDUPLICATION, &tree).is_ok());
 
-    let long = [b'a'; 65_536];
-    let values = [Value::Array(1), Value::Str(Text::from_bytes(&long))];
+    let long = "a".repeat(65_536);
+    let values = [Value::Array(1), Value::Str(&long)];
     assert_eq!(refused_tree(&texts(), &values), Refusal::NoRoom);
 
     let rows = night().read(NIGHT).unwrap();
@@ -270,10 +291,33 @@ fn trees_32_and_43() {
 fn rows_50_and_51() {
     let words = [6, 1, 2, 11, 0, 0, 0, 0, 1, 6, 2, 2, 7];
     let look = |row| look(&words, b"abc", row);
-    assert_eq!(look(0), Ok(Value::str("bc")));
+    assert_eq!(look(0), Ok(Value::Str("bc")));
     // Another kind, a word that is not used, a place outside, words that are no whole row.
     assert_eq!([1, 2, 3].map(look), [Err(Refusal::BadRow); 3]);
     assert_eq!([4, usize::MAX].map(look), [Err(Refusal::NoRow); 2]);
+}
+
+/// No read has judged these rows, so that looking tests their texts, and theirs alone.
+#[test]
+fn looking_28() {
+    let words = [6, 0, 3, 6, 0, 2, 6, 1, 1, 7, 0, 2];
+    let look = |row| look(&words, b"a\xc3\xa4", row);
+    assert_eq!(look(0), Ok(Value::Str("a\u{e4}")));
+    assert_eq!(look(1), Err(Refusal::Text { row: Some(1) }));
+    assert_eq!(look(2), Err(Refusal::Text { row: Some(2) }));
+    assert_eq!(look(3), Ok(Value::Bytes(b"a\xc3")));
+}
+
+/// Rows of one message looked at with the bytes of another, which are no text there.
+#[test]
+fn rows_with_bytes_of_another_message_are_tested() {
+    let message = one_text(b"ab");
+    let rows = texts().read(&message).unwrap();
+    assert_eq!(look(rows.words(), &message, 1), Ok(Value::Str("ab")));
+    assert_eq!(
+        look(rows.words(), &one_text(b"\xc0\xaf"), 1),
+        Err(Refusal::Text { row: Some(1) })
+    );
 }
 
 #[test]

@@ -2,7 +2,7 @@
 
 mod common;
 
-use argo::{Codec, Modes, Rows, Table, Text, Tree, Value};
+use argo::{Codec, Modes, Rows, Table, Tree, Value};
 use common::*;
 
 const ALL_MODES: [Modes; 3] = [
@@ -45,9 +45,9 @@ fn job<'m>(
 ) -> [Value<'m>; 6] {
     [
         Value::Record(5),
-        Value::str(name),
-        Value::str(status),
-        note.map_or(Value::Null, Value::str),
+        Value::Str(name),
+        Value::Str(status),
+        note.map_or(Value::Null, Value::Str),
         seconds.map_or(Value::Absent, Value::Int),
         Value::Fixed(digest),
     ]
@@ -107,7 +107,7 @@ fn values_outlive_the_rows() {
     let (mut codec, night) = (Codec::new(), night());
     let note = codec.read(&night, NIGHT).unwrap().get(10);
     codec.read(&night, NIGHT).unwrap();
-    assert_eq!(note, Some(Value::str("out of memory")));
+    assert_eq!(note, Some(Value::Str("out of memory")));
 }
 
 #[test]
@@ -117,6 +117,22 @@ fn a_value_is_a_part_of_the_message_itself() {
         panic!("row 6 is a digest");
     };
     assert!(std::ptr::eq(digest, &NIGHT[52..60]));
+}
+
+/// Of a repeat too, which stands where its first is.
+#[test]
+fn a_text_is_a_part_of_the_message_itself() {
+    let (mut codec, night) = (Codec::new(), night());
+    let text = |rows: Rows<'_, 'static>, row| match rows.get(row) {
+        Some(Value::Str(text)) => text,
+        value => panic!("row {row} is {value:?}"),
+    };
+    for row in [2, 20] {
+        let name = text(night.read(NIGHT).unwrap(), row);
+        assert!(std::ptr::eq(name.as_bytes(), &NIGHT[2..8]));
+        let name = text(codec.read(&night, NIGHT).unwrap(), row);
+        assert!(std::ptr::eq(name.as_bytes(), &NIGHT[2..8]));
+    }
 }
 
 #[test]
@@ -149,10 +165,10 @@ fn values_of_every_kind_survive() {
                 Value::Bytes(b"\xff\0"),
                 Value::Fixed(b"\0\xff"),
                 Value::Array(4),
-                Value::str(""),
-                Value::str("a"),
-                Value::str(""),
-                Value::str("a"),
+                Value::Str(""),
+                Value::Str("a"),
+                Value::Str(""),
+                Value::Str("a"),
             ],
         );
     }
@@ -190,30 +206,18 @@ fn equality_is_of_what_the_message_says() {
     assert_ne!(Value::Record(1), Value::Array(1));
     assert_ne!(Value::Null, Value::Absent);
     assert_ne!(Value::Bool(true), Value::Int(1));
-    assert_eq!(Value::str("a"), Value::Str(Text::from_bytes(b"a")));
+    assert_ne!(Value::Str("a"), Value::Bytes(b"a"));
     assert_eq!(Value::Int(1).float_bits(), None);
 }
 
+/// The first and last code points of each length, and around those that are left out.
 #[test]
-fn a_text_may_be_none_of_rusts() {
-    // An overlong slash, half a surrogate pair, a number beyond 10FFFF.
-    for bytes in [
-        &b"\xc0\xaf"[..],
-        &b"\xed\xa0\x80"[..],
-        &b"\xf7\xbf\xbf\xbf"[..],
-    ] {
-        survive(
-            &texts(),
-            &[Value::Array(1), Value::Str(Text::from_bytes(bytes))],
-        );
-        assert!(Text::from_bytes(bytes).as_str().is_err());
-    }
-    let text = Text::from_bytes(b"a\xc0\xaf");
-    assert_eq!(text.to_string_lossy(), "a\u{fffd}\u{fffd}");
-    assert_eq!(format!("{text:?}"), r#""a\xc0\xaf""#);
-    let text = Text::from("gr\u{fc}n");
-    assert_eq!(text.as_str(), Ok("gr\u{fc}n"));
-    assert_eq!(text, "gr\u{fc}n");
+fn a_text_is_any_str() {
+    let text = "\0\u{7f}\u{80}\u{7ff}\u{800}\u{d7ff}\u{e000}\u{ffff}\u{10000}\u{10ffff}";
+    let mut values = vec![Value::Array(11), Value::Str(text)];
+    let parts = text.char_indices();
+    values.extend(parts.map(|(at, c)| Value::Str(&text[at..at + c.len_utf8()])));
+    survive(&texts(), &values);
 }
 
 #[test]
@@ -229,7 +233,7 @@ fn modes_are_bits() {
 /// Mode 0 has no blocks, mode 5 no numbers, and with mode 2 an error reads as null.
 #[test]
 fn modes_do_what_they_say() {
-    let tree: Tree = [Value::Array(2), Value::str("ab"), Value::str("ab")]
+    let tree: Tree = [Value::Array(2), Value::Str("ab"), Value::Str("ab")]
         .into_iter()
         .collect();
     let write = |modes| texts().write(modes, &tree).unwrap();
@@ -254,7 +258,7 @@ fn repeats_take_no_room_in_the_pool() {
     let text = "a status that is long enough to be worth naming by its number";
     let mut tree = Tree::new();
     tree.push(Value::Array(8_000));
-    tree.extend((0..8_000).map(|_| Value::str(text)));
+    tree.extend((0..8_000).map(|_| Value::Str(text)));
     assert_eq!(tree.pool(), text.as_bytes());
     let message = texts().write(Modes::NONE, &tree).unwrap();
     assert!(message.len() < 8_100);
@@ -265,15 +269,15 @@ fn repeats_take_no_room_in_the_pool() {
 fn a_tree_can_be_used_again() {
     let mut tree = Tree::new();
     assert!(tree.is_empty());
-    tree.push(Value::Array(1)).push(Value::str("a"));
+    tree.push(Value::Array(1)).push(Value::Str("a"));
     assert_eq!((tree.len(), tree.pool()), (2, &b"a"[..]));
     tree.clear();
     assert!(tree.is_empty() && tree.pool().is_empty() && tree.words().is_empty());
-    tree.push(Value::Array(1)).push(Value::str("ba"));
+    tree.push(Value::Array(1)).push(Value::Str("ba"));
     let message = texts().write(Modes::NONE, &tree).unwrap();
     assert_eq!(
         texts().read(&message).unwrap().get(1),
-        Some(Value::str("ba"))
+        Some(Value::Str("ba"))
     );
 }
 

@@ -17,7 +17,7 @@ fn all_values_in_order() {
     assert_eq!((iter.next(), iter.len()), (None, 0));
     let mut count = 0;
     for value in &rows {
-        count += usize::from(value == Value::str("PASSED"));
+        count += usize::from(value == Value::Str("PASSED"));
     }
     assert_eq!(count, 3);
     assert_eq!((rows.get(24).is_some(), rows.get(25)), (true, None));
@@ -35,7 +35,7 @@ fn what_is_below_a_row_is_stepped_over() {
         .collect();
     assert_eq!(
         names,
-        ["parser", "linker", "manual", "parser"].map(Value::str)
+        ["parser", "linker", "manual", "parser"].map(Value::Str)
     );
     assert_eq!(rows.children(7).collect::<Vec<_>>(), [8, 9, 10, 11, 12]);
     assert_eq!(

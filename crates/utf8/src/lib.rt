@@ -1,63 +1,96 @@
-// The text test: whether bytes are UTF-8 by the format's rule.
+// The text test: whether bytes are UTF-8, character by character.
 ghost use mathlib.Core.Path.{_≡_};
-ghost use Prim.Native.Nat.{_≤_};
-ghost use lib.ListN.{length};
+ghost use Prim.Native.Nat.{_≤_, _<_};
+ghost use lib.ListN.{length, getD};
 ghost use lib.Seq.{slice};
-ghost use Rattle.format.specs.Utf8.{isText, lead as leadOf, next as nextOf};
+ghost use Rattle.format.specs.Utf8.{tail, within, isText};
+ghost use Rattle.laws.specs.Utf8.{lowest as lowestOf, highest as highestOf, second};
 ghost use Rattle.utf8.specs.Ascii.{isAscii};
-ghost use Rattle.utf8.specs.Meaning.{followOf, stepOf};
+ghost use Rattle.utf8.specs.Passes.{Passes};
 
-// How many bytes are still to follow, and between which bounds the next of them lies.
-struct Follow {
-    more: u8,
-    low: u8,
-    high: u8,
-}
+// So many bytes of ASCII are passed together.
+const RUN: usize = 16;
 
-// What comes of a byte: something is to follow it, or it may not stand there.
-enum Step {
-    To(Follow),
-    Stray,
-}
-
-impl Follow {
-    fn new(more: u8, low: u8, high: u8) -> Follow
-        ensures { λ r. ⌜ r ≡ record { more = more; low = low; high = high } ⌝ }
-    {
-        Follow { more, low, high }
-    }
-}
-
-// The only table of lead bytes: the format's, row by row.
-fn lead(b: u8) -> Step
-    ensures { λ r. ⌜ stepOf r ≡ leadOf b ⌝ }
+// Whether a byte may stand behind the second of a character, or behind the lead of two.
+fn is_tail(b: u8) -> bool
+    ensures { λ r. ⌜ r ≡ within tail b ⌝ }
 {
-    match b {
-        0x00..=0x7f => Step::To(Follow::new(0, 0x80, 0xbf)),
-        0xc0..=0xdf => Step::To(Follow::new(1, 0x80, 0xbf)),
-        0xe0..=0xef => Step::To(Follow::new(2, 0x80, 0xbf)),
-        0xf0..=0xf7 => Step::To(Follow::new(3, 0x80, 0xbf)),
-        _ => Step::Stray,
-    }
+    (0x80 <= b) & (b <= 0xbf)
 }
 
-// What is to follow once b has come where f was to follow. Only the byte right after the lead has bounds of its own.
-fn next(f: Follow, b: u8) -> Step
-    ensures { λ r. ⌜ stepOf r ≡ nextOf (followOf f) b ⌝ }
+// The lowest byte right behind a lead of three bytes or four,
+fn lowest(b: u8) -> u8
+    ensures { λ r. ⌜ r ≡ lowestOf b ⌝ }
 {
-    if f.more == 0 {
-        return lead(b);
+    if b == 0xe0 {
+        return 0xa0;
     }
-    if b < f.low {
-        return Step::Stray;
+    if b == 0xf0 {
+        return 0x90;
     }
-    if f.high < b {
-        return Step::Stray;
-    }
-    Step::To(Follow::new(f.more - 1, 0x80, 0xbf))
+    0x80
 }
 
-// Most text is ASCII. The loop has no way out in the middle, so that one instruction can look at many bytes.
+// and the highest.
+fn highest(b: u8) -> u8
+    ensures { λ r. ⌜ r ≡ highestOf b ⌝ }
+{
+    if b == 0xed {
+        return 0x9f;
+    }
+    if b == 0xf4 {
+        return 0x8f;
+    }
+    0xbf
+}
+
+fn is_second(b: u8, x: u8) -> bool
+    ensures { λ r. ⌜ r ≡ within (second b) x ⌝ }
+{
+    (lowest(b) <= x) & (x <= highest(b))
+}
+
+// The two bytes of a character, or 0 where it is none.
+fn two(s: &[u8], at: usize, end: usize, b: u8) -> usize
+    requires { ⌜ (at < end) × (end ≤ length (now s)) × (b ≡ getD (now s) at 0) × (0xc2 ≤ b) × (b < 0xe0) ⌝ }
+    ensures { λ r. ⌜ Passes (now (s .entry)) at end r ⌝ }
+{
+    if end - at < 2 {
+        return 0;
+    }
+    if is_tail(s[at + 1]) {
+        return 2;
+    }
+    0
+}
+
+fn three(s: &[u8], at: usize, end: usize, b: u8) -> usize
+    requires { ⌜ (at < end) × (end ≤ length (now s)) × (b ≡ getD (now s) at 0) × (0xe0 ≤ b) × (b < 0xf0) ⌝ }
+    ensures { λ r. ⌜ Passes (now (s .entry)) at end r ⌝ }
+{
+    if end - at < 3 {
+        return 0;
+    }
+    if is_second(b, s[at + 1]) & is_tail(s[at + 2]) {
+        return 3;
+    }
+    0
+}
+
+fn four(s: &[u8], at: usize, end: usize, b: u8) -> usize
+    requires { ⌜ (at < end) × (end ≤ length (now s)) × (b ≡ getD (now s) at 0) × (0xf0 ≤ b) × (b < 0xf5) ⌝ }
+    ensures { λ r. ⌜ Passes (now (s .entry)) at end r ⌝ }
+{
+    if end - at < 4 {
+        return 0;
+    }
+    if is_second(b, s[at + 1]) & is_tail(s[at + 2]) & is_tail(s[at + 3]) {
+        return 4;
+    }
+    0
+}
+
+// The loop has no way out in the middle, so that one instruction can look at many bytes.
 fn is_ascii(s: &[u8], start: usize, end: usize) -> bool
     requires { ⌜ end ≤ length (now s) ⌝ }
     ensures { λ r. ⌜ r ≡ isAscii (slice start end (now (s .entry))) ⌝ }
@@ -71,7 +104,60 @@ fn is_ascii(s: &[u8], start: usize, end: usize) -> bool
     all
 }
 
-// Whether the bytes from start up to end are text. It never looks past end.
+// One byte of ASCII, or a run of them.
+fn ascii(s: &[u8], at: usize, end: usize) -> usize
+    requires { ⌜ (at < end) × (end ≤ length (now s)) × (getD (now s) at 0 < 0x80) ⌝ }
+    ensures { λ r. ⌜ Passes (now (s .entry)) at end r ⌝ }
+{
+    if end - at < RUN {
+        return 1;
+    }
+    if is_ascii(s, at, at + RUN) {
+        return RUN;
+    }
+    1
+}
+
+// How many bytes the character takes that begins here, with more of ASCII behind it; 0 where none begins.
+fn character(s: &[u8], at: usize, end: usize) -> usize
+    requires { ⌜ (at < end) × (end ≤ length (now s)) ⌝ }
+    ensures { λ r. ⌜ Passes (now (s .entry)) at end r ⌝ }
+{
+    let b = s[at];
+    if b < 0x80 {
+        return ascii(s, at, end);
+    }
+    if b < 0xc2 {
+        return 0;
+    }
+    if b < 0xe0 {
+        return two(s, at, end, b);
+    }
+    if b < 0xf0 {
+        return three(s, at, end, b);
+    }
+    if b < 0xf5 {
+        return four(s, at, end, b);
+    }
+    0
+}
+
+fn are_characters(s: &[u8], start: usize, end: usize) -> bool
+    requires { ⌜ end ≤ length (now s) ⌝ }
+    ensures { λ r. ⌜ r ≡ isText (slice start end (now (s .entry))) ⌝ }
+{
+    let mut at = start;
+    while at < end {
+        let n = character(s, at, end);
+        if n == 0 {
+            return false;
+        }
+        at += n;
+    }
+    true
+}
+
+// Whether the bytes from start up to end are text. It never looks past end. Most text is ASCII.
 pub fn is_text(s: &[u8], start: usize, end: usize) -> bool
     requires { ⌜ end ≤ length (now s) ⌝ }
     ensures { λ r. ⌜ r ≡ isText (slice start end (now (s .entry))) ⌝ }
@@ -79,14 +165,5 @@ pub fn is_text(s: &[u8], start: usize, end: usize) -> bool
     if is_ascii(s, start, end) {
         return true;
     }
-    let mut f = Follow::new(0, 0x80, 0xbf);
-    let mut at = start;
-    while at < end {
-        let Step::To(g) = next(f, s[at]) else {
-            return false;
-        };
-        f = g;
-        at += 1;
-    }
-    f.more == 0
+    are_characters(s, start, end)
 }

@@ -2,6 +2,7 @@
 //! sides of the limits that small cases can reach.
 
 use super::damage::{EDGE_LABELS, NO_LABELS};
+use super::texts;
 use super::trees::EDGE_WORDS;
 use crate::case::Case;
 use crate::small::text_record;
@@ -241,6 +242,7 @@ pub fn cases(kind: char) -> Vec<Case> {
         'L' => looks(&mut cases),
         _ => parts(&mut cases),
     }
+    cases.extend(texts::cases(kind));
     cases
 }
 

@@ -3,6 +3,7 @@
 pub mod damage;
 pub mod fixed;
 pub mod limits;
+pub mod texts;
 pub mod trees;
 
 use crate::case::Case;
@@ -326,7 +327,7 @@ fn near(rng: &mut Rng, limit: usize) -> usize {
 fn big_read(rng: &mut Rng) -> Case {
     let any_modes = modes(rng);
     let inline = any_modes & 1 != 0;
-    let (nodes, message) = match rng.below(6) {
+    let (nodes, message) = match rng.below(7) {
         // Entries that need no bytes, up to the last row and past it.
         0 => {
             let mut core = Vec::new();
@@ -376,6 +377,12 @@ fn big_read(rng: &mut Rng) -> Case {
                 message,
             )
         }
+        // One long text, of any characters.
+        5 => {
+            let len = rng.below(60_000);
+            let text = texts::near_in(rng, len);
+            (fixed::table_s(), texts::message(&[&text], any_modes))
+        }
         // A table with all nodes.
         _ => {
             let nodes = wide_table(rng);
@@ -422,7 +429,7 @@ fn big_write(rng: &mut Rng) -> Case {
     let any_modes = modes(rng);
     let inline = any_modes & 1 != 0;
     let text = |start: usize, len: usize| [rows::STRING, start as u64, len as u64];
-    let (nodes, rows, pool) = match rng.below(5) {
+    let (nodes, rows, pool) = match rng.below(6) {
         // Rows up to the limit and past it.
         0 => {
             let entries = near(rng, MAX_ROWS - 1);
@@ -449,6 +456,13 @@ fn big_write(rng: &mut Rng) -> Case {
             let extra = rng.pick(&[0, shell, shell + 1]);
             let pool = vec![b'p'; size - shell + extra];
             let rows = [[rows::ARRAY, 1, 0], text(0, size - shell)].concat();
+            (fixed::table_s(), rows, pool)
+        }
+        // One long text, of any characters.
+        4 => {
+            let len = rng.below(60_000);
+            let pool = texts::near_in(rng, len);
+            let rows = [[rows::ARRAY, 1, 0], text(0, pool.len())].concat();
             (fixed::table_s(), rows, pool)
         }
         // The same long places again and again: far over the limit, unless named.

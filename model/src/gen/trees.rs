@@ -1,5 +1,6 @@
 //! Random tables, and random trees that fit them.
 
+use super::texts;
 use crate::rng::Rng;
 use crate::table::{self, Node, WireType};
 use crate::{rows, KEYS, MAX_BYTES, MAX_NODES, MAX_PATH};
@@ -234,20 +235,20 @@ pub struct Tree {
     pub pool: Vec<u8>,
 }
 
-/// A tree that fits the table, of about `fuel` rows. Once in a while one of its
-/// strings is not UTF-8; nothing else is ever wrong with it.
+/// A tree that fits the table, of about `fuel` rows. Now and then some of its texts lie near a bound of UTF-8, on
+/// either side; nothing else is ever wrong with it.
 pub fn tree(rng: &mut Rng, types: &[WireType], fuel: usize) -> Tree {
-    let bad_texts = rng.one_in(25);
+    let near = rng.one_in(6);
     let palette = |rng: &mut Rng| {
         let size = 1 + rng.below(5);
-        (0..size).map(|_| (text(rng, bad_texts), None)).collect()
+        (0..size).map(|_| (text(rng, near), None)).collect()
     };
     let mut grower = Grower {
         palettes: (0..KEYS).map(|_| palette(rng)).collect(),
         rng,
         types,
         fuel,
-        bad_texts,
+        near,
         tree: Tree {
             rows: Vec::new(),
             pool: Vec::new(),
@@ -265,7 +266,7 @@ struct Grower<'a> {
     types: &'a [WireType],
     palettes: Vec<Vec<Placed>>,
     fuel: usize,
-    bad_texts: bool,
+    near: bool,
     tree: Tree,
 }
 
@@ -373,7 +374,7 @@ impl Grower<'_> {
     /// A text of the key's palette, at its old place or at a new one.
     fn place(&mut self, this: &WireType) -> (usize, usize) {
         if self.rng.one_in(6) {
-            let fresh = text(self.rng, self.bad_texts && this.kind == table::STRING);
+            let fresh = text(self.rng, self.near);
             if self.tree.pool.len() + fresh.len() <= MAX_BYTES {
                 return (self.append(&fresh), fresh.len());
             }
@@ -396,30 +397,8 @@ impl Grower<'_> {
     }
 }
 
-/// A text by the sheet's rule of UTF-8, or one that breaks it now and then.
-fn text(rng: &mut Rng, bad: bool) -> Vec<u8> {
-    const GOOD: [&[u8]; 9] = [
-        b"\xc3\xa9",
-        b"\xc0\x80",
-        b"\xdf\xbf",
-        b"\xe2\x82\xac",
-        b"\xe0\x80\x80",
-        b"\xef\xbf\xbf",
-        b"\xf0\x9f\x98\x80",
-        b"\xf7\xbf\xbf\xbf",
-        b"\x00",
-    ];
-    const BAD: [&[u8]; 9] = [
-        b"\x80",
-        b"\xbf",
-        b"\xc3",
-        b"\xc3\x41",
-        b"\xe2\x82",
-        b"\xe2\x41\x80",
-        b"\xf0\x9f\x98",
-        b"\xf8\x80\x80\x80\x80",
-        b"\xff",
-    ];
+/// A text; where `near` says so, one in three has a character near a bound of UTF-8.
+fn text(rng: &mut Rng, near: bool) -> Vec<u8> {
     let len = match rng.below(24) {
         0..=4 => 0,
         5..=10 => 1,
@@ -431,16 +410,9 @@ fn text(rng: &mut Rng, bad: bool) -> Vec<u8> {
         _ if rng.one_in(60) => 8_188 + rng.below(6),
         _ => 120 + rng.below(20),
     };
-    let mut text = Vec::new();
-    while text.len() < len {
-        if len - text.len() >= 4 && rng.one_in(6) {
-            text.extend(rng.pick(&GOOD));
-        } else {
-            text.push(b'a' + rng.below(4) as u8);
-        }
+    if near && rng.one_in(3) {
+        texts::near_in(rng, len)
+    } else {
+        texts::right(rng, len)
     }
-    if bad && rng.one_in(3) {
-        text.extend(rng.pick(&BAD));
-    }
-    text
 }

@@ -54,6 +54,12 @@ pub fn texts() -> Table {
     table(&[ARRAY, deduplicating(0), STRING])
 }
 
+/// A message of `texts` with one text, of fewer than 64 bytes.
+pub fn one_text(text: &[u8]) -> Vec<u8> {
+    let label = 2 * text.len() as u8;
+    [&[0, label], text, &[4, 2, label]].concat()
+}
+
 /// An array of records without fields.
 pub fn empties() -> Table {
     table(&[ARRAY, record(0)])
