@@ -54,6 +54,7 @@ pub fn pairs() -> Vec<[Scene; 2]> {
         [2_048, 4_096].map(scattered),
         [4_095, 8_191].map(empty_records),
         [2_047, 4_095].map(truths),
+        [4_000, 8_000].map(numbers),
         [125, 250].map(deep),
         [11, 12].map(twos),
     ]
@@ -189,6 +190,23 @@ fn truths(entries: usize) -> Scene {
     let mut list = vec![rows::ARRAY, entries as u64, 0];
     list.extend([rows::RECORD, 1, 0, rows::TRUE, 0, 0].repeat(entries));
     let name = format!("{} records of a truth", commas(entries));
+    Scene::new(&name, &nodes, list, Vec::new())
+}
+
+/// An array of integers, so many bits each that labels of one to ten bytes come in no order.
+fn numbers(entries: usize) -> Scene {
+    let nodes = [
+        Node::new(table::ARRAY, 0, 0),
+        Node::new(table::BLOCK, 0, 0),
+        Node::new(table::VARINT, 0, 0),
+    ];
+    let mut rng = Rng::new(entries as u64);
+    let mut list = vec![rows::ARRAY, entries as u64, 0];
+    for _ in 0..entries {
+        let bits = rng.below(64) as u32;
+        list.extend([rows::INTEGER, rng.word() >> bits, 0]);
+    }
+    let name = format!("{} numbers", commas(entries));
     Scene::new(&name, &nodes, list, Vec::new())
 }
 

@@ -1,7 +1,9 @@
 -- The requests' rules by example, a list for each request, by computing.
 use mathlib.Core.Path.{_≡_, refl}
 use mathlib.Core.List.{List, [], _∷_}
-use Prim.Native.Nat.{ℕ}
+use Prim.Native.Nat.{ℕ, _-_, _^_}
+use lib.Count.{leadingZeros}
+use lib.IntN.{ℤ, pos, negsuc}
 use Rattle.format.specs.Answer
 use Rattle.format.specs.Label
 use Rattle.format.specs.Utf8
@@ -39,3 +41,13 @@ unfolding
     Read.isLabel Read.isNumbered Read.isRight Read.nth Read.addAt Read.total Read.littleEndian Read.wireNodes Read.nodesOf Read.fieldCount Read.truthOf Read.countOf Read.isNull Read.readNumber Read.readBytes Read.isRead Read.takeLabel Read.takeRow Read.atBlock Read.atKey Read.addLiteral Read.oneRow Read.rowOr Read.entries Read.ownLabel Read.noLabel Read.value Read.fromKey Read.readText Read.leaf Read.wire Read.walk Read.allRead Read.isDone Read.sizeOf Read.pieces Read.lastOf Read.blocksAndCore Read.split Read.readChecked Read.read
     Write.unlabelled Write.nextIn Write.isBare Write.wordIn Write.textIn Write.truthIn Write.littleEndianBytes Write.markOr Write.fitEntries Write.fitField Write.fitLeaf Write.fitWire Write.sameText Write.further Write.firstEqual Write.choose Write.addBytes Write.putLabel Write.putValue Write.putLiteral Write.putFront Write.putChoice Write.putBody Write.putEvents Write.blockPieces Write.pieceBytes Write.messageOf Write.bodyValue Write.valuesOf Write.unlessThere Write.distinctAfter Write.differentValues Write.areWhole Write.eventsOf Write.encode Write.writeChecked Write.write
 names = refl
+
+abbrev size : ℤ → List ℕ
+size n = Label.sizeOfZeros (leadingZeros 64 (Label.zigzag n)) ∷ Label.labelSize n ∷ []
+
+-- No. 4: the sizes of the labels 0, 63, 64 and -2^63, by the formula and by the seven-bit rule
+pub sizes :
+    (size (pos 0) ∷ size (pos 63) ∷ size (pos 64) ∷ size (negsuc (2 ^ 63 - 1)) ∷ [])
+    ≡ ((1 ∷ 1 ∷ []) ∷ (1 ∷ 1 ∷ []) ∷ (2 ∷ 2 ∷ []) ∷ (10 ∷ 10 ∷ []) ∷ [])
+unfolding leadingZeros Label.zigzag Label.septets Label.varint Label.label Label.sizeOfZeros
+sizes = refl

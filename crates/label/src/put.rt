@@ -6,17 +6,12 @@ ghost use lib.Seq.{sets};
 ghost use Rattle.format.specs.Label.{varint, label, labelSize};
 use super::words;
 
-// How many bytes the VARINT z takes.
+// How many bytes the VARINT z takes: seven bits a byte, worked out from the leading zero bits.
 pub fn varint_size(z: u64) -> usize
     ensures { λ r. ⌜ r ≡ length (varint z) ⌝ }
 {
-    let mut size = 1;
-    let mut v = z;
-    while v >= 128 {
-        v /= 128;
-        size += 1;
-    }
-    size
+    let zeros = u64::leading_zeros(z) as usize;
+    (640 - 9 * zeros) / 64
 }
 
 // How many bytes the label n takes.
