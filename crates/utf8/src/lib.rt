@@ -8,9 +8,6 @@ ghost use Rattle.laws.specs.Utf8.{lowest as lowestOf, highest as highestOf, sec
 ghost use Rattle.utf8.specs.Ascii.{isAscii};
 ghost use Rattle.utf8.specs.Passes.{Passes};
 
-// So many bytes of ASCII are passed together.
-const RUN: usize = 16;
-
 // Whether a byte may stand behind the second of a character, or behind the lead of two.
 fn is_tail(b: u8) -> bool
     ensures { λ r. ⌜ r ≡ within tail b ⌝ }
@@ -52,94 +49,54 @@ fn is_second(b: u8, x: u8) -> bool
 
 // The two bytes of a character, or 0 where it is none.
 fn two(s: &[u8], at: usize, end: usize, b: u8) -> usize
-    requires { ⌜ (at < end) × (end ≤ length (now s)) × (b ≡ getD (now s) at 0) × (0xc2 ≤ b) × (b < 0xe0) ⌝ }
+    requires { ⌜ (at < end) × (end ≤ length (now s)) × (b ≡ getD (now s) at 0) × (0x80 ≤ b) × (b < 0xe0) ⌝ }
     ensures { λ r. ⌜ Passes (now (s .entry)) at end r ⌝ }
 {
     if end - at < 2 {
         return 0;
     }
-    if is_tail(s[at + 1]) {
+    if (0xc2 <= b) & is_tail(s[at + 1]) {
         return 2;
     }
     0
 }
 
-fn three(s: &[u8], at: usize, end: usize, b: u8) -> usize
-    requires { ⌜ (at < end) × (end ≤ length (now s)) × (b ≡ getD (now s) at 0) × (0xe0 ≤ b) × (b < 0xf0) ⌝ }
+// The three bytes of a character, or the four.
+fn more(s: &[u8], at: usize, end: usize, b: u8) -> usize
+    requires { ⌜ (at < end) × (end ≤ length (now s)) × (b ≡ getD (now s) at 0) × (0xe0 ≤ b) ⌝ }
     ensures { λ r. ⌜ Passes (now (s .entry)) at end r ⌝ }
 {
     if end - at < 3 {
         return 0;
     }
-    if is_second(b, s[at + 1]) & is_tail(s[at + 2]) {
-        return 3;
-    }
-    0
-}
-
-fn four(s: &[u8], at: usize, end: usize, b: u8) -> usize
-    requires { ⌜ (at < end) × (end ≤ length (now s)) × (b ≡ getD (now s) at 0) × (0xf0 ≤ b) × (b < 0xf5) ⌝ }
-    ensures { λ r. ⌜ Passes (now (s .entry)) at end r ⌝ }
-{
-    if end - at < 4 {
+    if !(is_second(b, s[at + 1]) & is_tail(s[at + 2])) {
         return 0;
     }
-    if is_second(b, s[at + 1]) & is_tail(s[at + 2]) & is_tail(s[at + 3]) {
+    if b < 0xf0 {
+        return 3;
+    }
+    if (end - at < 4) | (0xf4 < b) {
+        return 0;
+    }
+    if is_tail(s[at + 3]) {
         return 4;
     }
     0
 }
 
-// The loop has no way out in the middle, so that one instruction can look at many bytes.
-fn is_ascii(s: &[u8], start: usize, end: usize) -> bool
-    requires { ⌜ end ≤ length (now s) ⌝ }
-    ensures { λ r. ⌜ r ≡ isAscii (slice start end (now (s .entry))) ⌝ }
-{
-    let mut all = true;
-    let mut at = start;
-    while at < end {
-        all = all & (s[at] <= 0x7f);
-        at += 1;
-    }
-    all
-}
-
-// One byte of ASCII, or a run of them.
-fn ascii(s: &[u8], at: usize, end: usize) -> usize
-    requires { ⌜ (at < end) × (end ≤ length (now s)) × (getD (now s) at 0 < 0x80) ⌝ }
-    ensures { λ r. ⌜ Passes (now (s .entry)) at end r ⌝ }
-{
-    if end - at < RUN {
-        return 1;
-    }
-    if is_ascii(s, at, at + RUN) {
-        return RUN;
-    }
-    1
-}
-
-// How many bytes the character takes that begins here, with more of ASCII behind it; 0 where none begins.
+// How many bytes the character takes that begins here; 0 where none begins.
 fn character(s: &[u8], at: usize, end: usize) -> usize
     requires { ⌜ (at < end) × (end ≤ length (now s)) ⌝ }
     ensures { λ r. ⌜ Passes (now (s .entry)) at end r ⌝ }
 {
     let b = s[at];
     if b < 0x80 {
-        return ascii(s, at, end);
-    }
-    if b < 0xc2 {
-        return 0;
+        return 1;
     }
     if b < 0xe0 {
         return two(s, at, end, b);
     }
-    if b < 0xf0 {
-        return three(s, at, end, b);
-    }
-    if b < 0xf5 {
-        return four(s, at, end, b);
-    }
-    0
+    more(s, at, end, b)
 }
 
 fn are_characters(s: &[u8], start: usize, end: usize) -> bool
@@ -157,7 +114,22 @@ fn are_characters(s: &[u8], start: usize, end: usize) -> bool
     true
 }
 
-// Whether the bytes from start up to end are text. It never looks past end. Most text is ASCII.
+// Most text is ASCII. The loop has no way out in the middle, so that one instruction can look at many bytes.
+fn is_ascii(s: &[u8], start: usize, end: usize) -> bool
+    requires { ⌜ end ≤ length (now s) ⌝ }
+    ensures { λ r. ⌜ r ≡ isAscii (slice start end (now (s .entry))) ⌝ }
+{
+    let mut all = true;
+    let mut at = start;
+    while at < end {
+        all = all & (s[at] <= 0x7f);
+        at += 1;
+    }
+    all
+}
+
+// Whether the bytes from start up to end are text. It never looks past end. It is so small that it is compiled into its
+// callers: a call, even one that is hardly ever made, would cost a short text a quarter of its time.
 pub fn is_text(s: &[u8], start: usize, end: usize) -> bool
     requires { ⌜ end ≤ length (now s) ⌝ }
     ensures { λ r. ⌜ r ≡ isText (slice start end (now (s .entry))) ⌝ }

@@ -1,11 +1,6 @@
 -- `utf8::two` meets its contract. Assumes nothing.
-use mathlib.Core.Path.{refl, _∙_}
-use mathlib.Core.Bool.{and-assoc, and-true}
-use mathlib.Core.List.{[], _∷_}
 use denote.Ref.{now}
-use Rattle.format.specs.Utf8.{tail}
-use Rattle.laws.specs.Utf8.{lead-two}
-use Rattle.utf8.proofs.Laws.{alls, passes-short, passes-all, passes-bad}
+use Rattle.utf8.proofs.Laws.{two-short, two-all, two-bad}
 use borrow.Author.Needs.{needs}
 use Rattle.utf8.proofs.two.Statement.{statement}
 use Rattle.utf8.proofs.two.Tie as tie
@@ -16,7 +11,7 @@ sub-if1 c = search needs
 returns : tie.Need-returns
 returns c =
     let s = c .before .before in
-    passes-short (now (s .args .s)) (s .args .at) (s .args .end) (s .pre .0) (s .pre .1) (tail ∷ []) (s .pre .2) (lead-two (s .args .b) (s .pre .3) (s .pre .4)) (c .if1 .taken)
+    two-short (now (s .args .s)) (s .args .at) (s .args .end) (s .pre .0) (s .pre .1) (s .pre .2) (s .pre .3) (s .pre .4) (c .if1 .taken)
 
 add-is-tail : tie.Need-add-is-tail
 add-is-tail c = search needs
@@ -28,16 +23,14 @@ is-tail-requires : tie.Need-is-tail-requires
 is-tail-requires c κs = search needs
 
 returns-2 : tie.Need-returns-2
-unfolding alls
 returns-2 c =
     let s = c .before .before .before .before .before in
-    passes-all (now (s .args .s)) (s .args .at) (s .args .end) (s .pre .0) (s .pre .1) (tail ∷ []) (s .pre .2) (lead-two (s .args .b) (s .pre .3) (s .pre .4)) (c .before .before .before .if1 .left) (rw (← c .before .is-tail .ensures, and-true) (c .if2 .taken))
+    two-all (now (s .args .s)) (s .args .at) (s .args .end) (s .pre .0) (s .pre .1) (s .pre .2) (s .pre .4) (c .before .before .before .if1 .left) (rw (c .before .is-tail .ensures) at (c .if2 .taken))
 
 returns-3 : tie.Need-returns-3
-unfolding alls
 returns-3 c =
     let s = c .before .before .before .before .before in
-    passes-bad (now (s .args .s)) (s .args .at) (s .args .end) (s .pre .0) (s .pre .1) (tail ∷ []) (s .pre .2) (lead-two (s .args .b) (s .pre .3) (s .pre .4)) (c .before .before .before .if1 .left) (rw (← c .before .is-tail .ensures, and-true) (c .if2 .left))
+    two-bad (now (s .args .s)) (s .args .at) (s .args .end) (s .pre .0) (s .pre .1) (s .pre .2) (s .pre .3) (s .pre .4) (c .before .before .before .if1 .left) (rw (c .before .is-tail .ensures) at (c .if2 .left))
 
 pub two-spec : {M : Type 1} → statement M
 two-spec =
