@@ -88,8 +88,7 @@ enum {
     ARGO_ARRAY = 10   /* a entries follow, likewise */
 };
 
-/* Refusals, by number. 33, a path of over 32 nodes, is in the rules too, but it is never answered: the table check
- * refuses such a table with 14. */
+/* Refusals, by number. */
 enum {
     ARGO_WORK_SHORT = 1,      /* work has fewer than ARGO_WORK words */
 

@@ -110,8 +110,7 @@ struct Reader<'a> {
 }
 
 impl Reader<'_> {
-    /// One value: its one label, if it has one, then what stands under it. The path
-    /// is the table's, which has at most 32 nodes, so 33 is never answered.
+    /// One value: its one label, if it has one, then what stands under it.
     fn value(&mut self, node: usize) -> Result<(), Answer> {
         let this = self.types[node];
         if !this.is_labelled() {

@@ -87,7 +87,6 @@ fn generated_cases_reach_every_refusal() {
         .chain([0, 50, 51].map(|number| ('L', number)));
     let missing: Vec<_> = expected.filter(|pair| !reached.contains(pair)).collect();
     assert!(missing.is_empty(), "{missing:?}");
-    assert!(reached.iter().all(|&(_, number)| number != 33));
 }
 
 #[test]

@@ -63,8 +63,6 @@ pub enum Refusal {
     ManyRows,
     /// 32: more than 4,096 numbered literals, all keys together; when writing, different values.
     ManyLiterals,
-    /// 33: a path longer than 32 nodes. The table check shuts it out, so it is never answered.
-    Path,
 
     /// 40: the modes to write in are others than 0, 2 and 5.
     Modes,
@@ -119,7 +117,6 @@ const PLAIN: [Refusal; 23] = [
     Refusal::Unused,
     Refusal::ManyRows,
     Refusal::ManyLiterals,
-    Refusal::Path,
     Refusal::Modes,
     Refusal::RowsSize,
     Refusal::NoRoom,
@@ -169,7 +166,6 @@ impl Refusal {
             Refusal::Unused => 30,
             Refusal::ManyRows => 31,
             Refusal::ManyLiterals => 32,
-            Refusal::Path => 33,
             Refusal::Modes => 40,
             Refusal::RowsSize => 41,
             Refusal::Unfit { .. } => 42,
@@ -238,7 +234,6 @@ impl Refusal {
             Refusal::Unused => "bytes or blocks unused at the end",
             Refusal::ManyRows => "one row more than 8,192 or than there is room for",
             Refusal::ManyLiterals => "more than 4,096 numbered literals, all keys together",
-            Refusal::Path => "a path longer than 32 nodes",
             Refusal::Modes => "modes other than 0, 2 and 5",
             Refusal::RowsSize => "over 8,192 rows, or a pool over 65,536 bytes",
             Refusal::Unfit { .. } => {
@@ -273,9 +268,9 @@ mod tests {
     use super::{Call, Refusal, PLAIN};
 
     /// The numbers of the feed's rules.
-    const NUMBERS: [u64; 27] = [
-        1, 10, 11, 12, 13, 14, 15, 20, 21, 22, 23, 24, 25, 26, 27, 28, 29, 30, 31, 32, 33, 40, 41,
-        42, 43, 50, 51,
+    const NUMBERS: [u64; 26] = [
+        1, 10, 11, 12, 13, 14, 15, 20, 21, 22, 23, 24, 25, 26, 27, 28, 29, 30, 31, 32, 40, 41, 42,
+        43, 50, 51,
     ];
 
     #[test]
@@ -327,8 +322,7 @@ mod tests {
             assert_eq!(variant.to_uppercase(), ours);
             numbers.push(number);
         }
-        let answered: Vec<u64> = NUMBERS.into_iter().filter(|&n| n != 33).collect();
-        assert_eq!(numbers, answered);
+        assert_eq!(numbers, NUMBERS);
     }
 
     #[test]

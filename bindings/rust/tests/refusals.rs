@@ -1,6 +1,5 @@
-//! Each refusal that can be reached, with the node or row that it names. Three cannot: 1, since the wrapper always lends
-//! enough work; 33, since a checked table has no such path; and 28 when writing, since a tree holds `str`s. That one is
-//! tried on rows in `src/codec.rs`.
+//! Each refusal that can be reached, with the node or row that it names. Two cannot: 1, since the wrapper always lends
+//! enough work; and 28 when writing, since a tree holds `str`s. That one is tried on rows in `src/codec.rs`.
 
 mod common;
 

@@ -38,7 +38,7 @@ unfolding
     Modes.has Modes.among Modes.areAllowed Modes.readHeader
     Table.u16 Table.nodeAt Table.omittable Table.deduplicate Table.mostArgument Table.rightAlone Table.isTextual Table.isLeaf Table.kindMayStand Table.omittableMayStand Table.mayStand Table.wireOf Table.shapeOf Table.leafOf Table.each Table.firstFrom Table.stands Table.buildFields Table.below Table.build Table.tree Table.isBlockOf Table.heldBy Table.alike Table.agrees Table.isMarked Table.rightCount Table.schemaOf Table.check
     Row.rowWords Row.words Row.isPlace Row.fromWords Row.rowAt Row.isInside Row.look Row.partOf Row.part Row.cellOf Row.shownAt Row.shownFrom
-    Read.isLabel Read.isNumbered Read.isRight Read.nth Read.addAt Read.total Read.littleEndian Read.wireNodes Read.nodesOf Read.fieldCount Read.truthOf Read.countOf Read.isNull Read.readNumber Read.readBytes Read.isRead Read.takeLabel Read.takeRow Read.atBlock Read.atKey Read.addLiteral Read.oneRow Read.rowOr Read.entries Read.ownLabel Read.noLabel Read.value Read.fromKey Read.readText Read.leaf Read.wire Read.walk Read.allRead Read.isDone Read.sizeOf Read.pieces Read.lastOf Read.blocksAndCore Read.split Read.readChecked Read.read
+    Read.isLabel Read.isNumbered Read.isRight Read.nth Read.addAt Read.total Read.littleEndian Read.fieldCount Read.truthOf Read.countOf Read.isNull Read.readNumber Read.readBytes Read.isRead Read.takeLabel Read.takeRow Read.atBlock Read.atKey Read.addLiteral Read.oneRow Read.rowOr Read.entries Read.ownLabel Read.noLabel Read.value Read.fromKey Read.readText Read.leaf Read.wire Read.walk Read.allRead Read.isDone Read.sizeOf Read.pieces Read.lastOf Read.blocksAndCore Read.split Read.readChecked Read.read
     Write.unlabelled Write.nextIn Write.isBare Write.wordIn Write.textIn Write.truthIn Write.littleEndianBytes Write.markOr Write.fitEntries Write.fitField Write.fitLeaf Write.fitWire Write.sameText Write.further Write.firstEqual Write.choose Write.addBytes Write.putLabel Write.putValue Write.putLiteral Write.putFront Write.putChoice Write.putBody Write.putEvents Write.blockPieces Write.pieceBytes Write.messageOf Write.bodyValue Write.valuesOf Write.unlessThere Write.distinctAfter Write.differentValues Write.areWhole Write.eventsOf Write.encode Write.writeChecked Write.write
 names = refl
 

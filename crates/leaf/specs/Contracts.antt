@@ -40,7 +40,7 @@ pub record PutsPart (n kind : ℕ) (part : Part) (before now : List ℕ) (r : St
       → Does m (mostRows (length before)) w w′ n before now r (a >>= (λ x. oneRow (inMessage m) (placed kind (x .0)) (x .1)))
 
 pub record Boolean (m : List ℕ) (front : Front) (c : Cursor) (n : ℕ) (before now : List ℕ) (r : Step) : Type 0 where
-  pub does : (modes : ℕ) (held : ℕ → Held) (path : ℕ) (w : List ℕ) → Ready m w → Walks m w w c n before now r (wire (inMessage m) modes held boolean path (frontOf front))
+  pub does : (modes : ℕ) (held : ℕ → Held) (w : List ℕ) → Ready m w → Walks m w w c n before now r (wire (inMessage m) modes held boolean (frontOf front))
 
 -- a leaf other than text; what the keys hold besides makes no difference
 pub record Unlabelled (m : List ℕ) (modes key : ℕ) (l : Leaf) (front : Front) (w w′ : List ℕ) (c : Cursor) (n : ℕ) (before now : List ℕ) (r : Step) : Type 0 where

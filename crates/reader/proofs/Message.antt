@@ -115,21 +115,21 @@ module _ (table m w l : List ℕ) (k : Kept table w) where
             pub root-ready : Ready m w₁ × Inside m core × Sized table × FitsNode table w₁ 32 0
             root-ready = (begun-in .0, begun-in .1, kept-sized kept, kept-fits kept)
 
-            from-root : answer ≡ (valueAt m modes (heldIn table) 0 false (k .schema .root) (stateOf m most w₁ core 0) >>= finish)
+            from-root : answer ≡ (valueAt m modes (heldIn table) false (k .schema .root) (stateOf m most w₁ core 0) >>= finish)
             unfolding walk _>>=_
             from-root = from-start ∙ rw (sym (x .is most) ∙ ap (begunOf m most w₁) q₃)
                 (ap (λ held. walk (inMessage m) modes held (k .schema .root) (stateOf m most w₁ core 0) >>= finish) (kept-held k))
 
             module _ {w₂ l₂ : List ℕ} (r : Step) (v : ReadsValue m w₁ w₂ l l₂ core 0 r table modes 0 false) where
-              root-does : Does m most w₁ w₂ 0 l l₂ r (valueAt m modes (heldIn table) 0 false (k .schema .root) (stateOf m most w₁ core 0))
-              root-does = v .does (k .schema .root) 0 (node-kept table w w₁ 0 (k .schema .root) (kept-sized k) (begun-in .2 .at) (kept-root k)) (omega (arith, kept-deep k))
+              root-does : Does m most w₁ w₂ 0 l l₂ r (valueAt m modes (heldIn table) false (k .schema .root) (stateOf m most w₁ core 0))
+              root-does = v .does (k .schema .root) (node-kept table w w₁ 0 (k .schema .root) (kept-sized k) (begun-in .2 .at) (kept-root k))
 
               pub rows-gone : {e : ℕ} → r ≡ Refused e → Gives table l l₂ w₂ r answer
               unfolding _>>=_
               rows-gone q = rw q (from-root ∙ rw (does-refused _ root-does q) refl)
 
               module _ {end : Cursor} {n : ℕ} (q₄ : r ≡ Done end n) where
-                ended : Ended m most w₂ l l₂ (valueAt m modes (heldIn table) 0 false (k .schema .root) (stateOf m most w₁ core 0)) end n
+                ended : Ended m most w₂ l l₂ (valueAt m modes (heldIn table) false (k .schema .root) (stateOf m most w₁ core 0)) end n
                 ended = does-ended _ root-does q₄
 
                 pub end-ready : Ready m w₂

@@ -11,7 +11,7 @@ use Rattle.format.specs.Read.{fieldCount}
 use Rattle.laws.specs.Tree.{sizeWire, size, depthWire, depth, depthFields, Has, HasWire}
 use Rattle.laws.specs.Kinds.{kindOf, kindOfNode, wire-top, node-top, by-record, by-array, by-field, has-kept, wire-some}
 use Rattle.store.specs.Words.{word}
-use Rattle.typed.specs.Typed.{Sized, heldIn, IsNode, IsWire, AreFields, FitsNode, FitsWire, FitFields, isNullable, below, pathTo}
+use Rattle.typed.specs.Typed.{Sized, heldIn, IsNode, IsWire, AreFields, FitsNode, FitsWire, FitFields, isNullable, below}
 
 pub node-some : (v : Node) → 1 ≤ size v
 unfolding size
@@ -29,11 +29,6 @@ wire-depth : (v : Node) → depthWire (wireOf v) ≤ depth v
 unfolding depth wireOf
 wire-depth (plain j w) = omega arith
 wire-depth (nullable j w) = omega arith
-
-pub path-wire : (v : Node) (path : ℕ) → path + depth v ≤ 32 → pathTo v path + depthWire (wireOf v) ≤ 32
-unfolding depth wireOf isNullable
-path-wire (plain j w) path h = h
-path-wire (nullable j w) path h = omega arith
 
 pub kind-nullable : (v : Node) → isNullable v ≡ eqb (kindOfNode v) NULLABLE
 unfolding isNullable kindOfNode kindOf

@@ -57,13 +57,10 @@ pub record Kept (table work : List ℕ) : Type 0 where
   pub whole : 16384 ≤ length work
   pub keeps : Ends (λ k. word work k) 0 (ends 0 (schema .root))
 
--- The value of a node: its own node, where the node is a NULLABLE or not, and the path to it.
+-- The value of a node: its own node, where the node is a NULLABLE or not.
 unfoldable pub isNullable : Node → Bool
 isNullable (plain i w) = false
 isNullable (nullable i w) = true
 
 abbrev pub below : Bool → ℕ → ℕ
 below z i = cond z (i + 1) i
-
-abbrev pub pathTo : Node → ℕ → ℕ
-pathTo v path = cond (isNullable v) (suc path) path

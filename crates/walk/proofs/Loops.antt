@@ -54,62 +54,61 @@ pub record EntriesAt (table m w₀ l₀ : List ℕ) (modes node count : ℕ) (c�
   pub ready : Ready m w
   pub inside : Inside m c
   pub same : Same w₀ w
-  pub leads : (v : Node) (path : ℕ) → IsNode table w₀ node v → path + depth v ≤ 32
-      → Leads m (mostRows (length l₀)) w₀ l₀ n₀ (entries (inMessage m) count (valueAt m modes (heldIn table) path false v) (stateOf m (mostRows (length l₀)) w₀ c₀ n₀))
-      w l n (entries (inMessage m) k (valueAt m modes (heldIn table) path false v) (stateOf m (mostRows (length l₀)) w c n))
+  pub leads : (v : Node) → IsNode table w₀ node v
+      → Leads m (mostRows (length l₀)) w₀ l₀ n₀ (entries (inMessage m) count (valueAt m modes (heldIn table) false v) (stateOf m (mostRows (length l₀)) w₀ c₀ n₀))
+      w l n (entries (inMessage m) k (valueAt m modes (heldIn table) false v) (stateOf m (mostRows (length l₀)) w c n))
 
 module _ (table m w₀ l₀ : List ℕ) (modes node count : ℕ) (c₀ : Cursor) (n₀ : ℕ) where
   pub entries-begin : Ready m w₀ → Inside m c₀ → EntriesAt table m w₀ l₀ modes node count c₀ n₀ w₀ l₀ count c₀ n₀
-  entries-begin g i = record { lent = refl; worked = refl; ready = g; inside = i; same = same-self w₀; leads = λ v path h d. leads-self }
+  entries-begin g i = record { lent = refl; worked = refl; ready = g; inside = i; same = same-self w₀; leads = λ v h. leads-self }
 
   module _ (w l : List ℕ) (k : ℕ) (c : Cursor) (n : ℕ) (x : EntriesAt table m w₀ l₀ modes node count c₀ n₀ w l k c n) (whole : Sized table) where
     pub entries-fits : {left : ℕ} → FitsNode table w₀ left node → FitsNode table w left node
     entries-fits f = record { type = f .type; is = node-kept table w₀ w node (f .type) whole (x .same .at) (f .is); deep = f .deep; most = f .most }
 
     -- what the entry has done, with as many rows as there may be
-    entry-does : {w₁ l₁ : List ℕ} {r : Step} (v : Node) (path : ℕ) → IsNode table w₀ node v → path + depth v ≤ 32 → ReadsValue m w w₁ l l₁ c n r table modes node false
-        → Does m (mostRows (length l₀)) w w₁ n l l₁ r (valueAt m modes (heldIn table) path false v (stateOf m (mostRows (length l₀)) w c n))
-    entry-does {w₁} {l₁} {r} v path h d y = subst (λ i. Does m (mostRows i) w w₁ n l l₁ r (valueAt m modes (heldIn table) path false v (stateOf m (mostRows i) w c n))) (x .lent)
-        (y .does v path (node-kept table w₀ w node v whole (x .same .at) h) d)
+    entry-does : {w₁ l₁ : List ℕ} {r : Step} (v : Node) → IsNode table w₀ node v → ReadsValue m w w₁ l l₁ c n r table modes node false
+        → Does m (mostRows (length l₀)) w w₁ n l l₁ r (valueAt m modes (heldIn table) false v (stateOf m (mostRows (length l₀)) w c n))
+    entry-does {w₁} {l₁} {r} v h y = subst (λ i. Does m (mostRows i) w w₁ n l l₁ r (valueAt m modes (heldIn table) false v (stateOf m (mostRows i) w c n))) (x .lent)
+        (y .does v (node-kept table w₀ w node v whole (x .same .at) h))
 
     pub entries-not : {w₁ l₁ : List ℕ} {r r′ : Step} {e : ℕ} → (k ≡ 0 → ⊥) → ReadsValue m w w₁ l l₁ c n r table modes node false → r ≡ Refused e → r′ ≡ r → ReadsEntries m w₀ w₁ l₀ l₁ c₀ n₀ r′ table modes node count
-    entries-not z y q u = rw u (record { does = λ v path h d. x .leads v path h d .onward (along (entries-some k _ _ z) (seqs-not _ _ (entry-does v path h d y) q)) })
+    entries-not z y q u = rw u (record { does = λ v h. x .leads v h .onward (along (entries-some k _ _ z) (seqs-not _ _ (entry-does v h y) q)) })
 
     pub entries-again : {left n₁ : ℕ} {w₁ l₁ : List ℕ} {c₁ : Cursor} {r : Step} → FitsNode table w₀ left node → (k ≡ 0 → ⊥) → length l₁ ≡ length l → length w₁ ≡ length w
         → ReadsValue m w w₁ l l₁ c n r table modes node false → r ≡ Done c₁ n₁ → EntriesAt table m w₀ l₀ modes node count c₀ n₀ w₁ l₁ (k - 1) c₁ n₁
     entries-again f z e₁ e₂ y q =
-        let d = entry-does (f .type) 0 (f .is) (omega (arith, f .deep, f .most)) y in
+        let d = entry-does (f .type) (f .is) y in
         record {
           lent = e₁ ∙ x .lent;
           worked = e₂ ∙ x .worked;
           ready = done-ready _ d q;
           inside = done-inside _ d q;
           same = same-then (x .same) (done-same _ d q);
-          leads = λ v path h b. record { onward = λ d₂. x .leads v path h b .onward (along (entries-some k _ _ z) (seqs _ _ (entry-does v path h b y) q d₂)) };
+          leads = λ v h. record { onward = λ d₂. x .leads v h .onward (along (entries-some k _ _ z) (seqs _ _ (entry-does v h y) q d₂)) };
         }
 
     pub entries-end : k ≡ 0 → ReadsEntries m w₀ w l₀ l c₀ n₀ (Done c n) table modes node count
-    entries-end z = record { does = λ v path h d. x .leads v path h d .onward (along (entries-none k _ _ z) (ends (mostRows (length l₀)) n c (x .ready) (x .inside))) }
+    entries-end z = record { does = λ v h. x .leads v h .onward (along (entries-none k _ _ z) (ends (mostRows (length l₀)) n c (x .ready) (x .inside))) }
 
 -- ---- fields
 
-all-none : {m : List ℕ} (modes : ℕ) (held : ℕ → Held) (ws : Fields) (path : ℕ) (s : State (inMessage m)) → fieldCount ws ≡ 0 → all (inMessage m) modes held ws path s ≡ ok ([], s)
+all-none : {m : List ℕ} (modes : ℕ) (held : ℕ → Held) (ws : Fields) (s : State (inMessage m)) → fieldCount ws ≡ 0 → all (inMessage m) modes held ws s ≡ ok ([], s)
 unfolding all
-all-none {m} modes held ws path s z = by-no-field 0 (nodeAt []) (λ i. 0) held (λ vs. all (inMessage m) modes held vs path s ≡ ok ([], s)) 0 ws z refl
+all-none {m} modes held ws s z = by-no-field 0 (nodeAt []) (λ i. 0) held (λ vs. all (inMessage m) modes held vs s ≡ ok ([], s)) 0 ws z refl
 
-all-some : {m : List ℕ} (modes : ℕ) (held : ℕ → Held) (o : Bool) (v : Node) (vs : Fields) (path : ℕ) (s : State (inMessage m))
-    → all (inMessage m) modes held (field o v vs) path s ≡ (valueAt m modes held path o v s >>= (λ x. all (inMessage m) modes held vs path (x .1) >>= (λ y. ok (x .0 ++ y .0, y .1))))
+all-some : {m : List ℕ} (modes : ℕ) (held : ℕ → Held) (o : Bool) (v : Node) (vs : Fields) (s : State (inMessage m))
+    → all (inMessage m) modes held (field o v vs) s ≡ (valueAt m modes held o v s >>= (λ x. all (inMessage m) modes held vs (x .1) >>= (λ y. ok (x .0 ++ y .0, y .1))))
 unfolding all
-all-some modes held o v vs path s = refl
+all-some modes held o v vs s = refl
 
 pub record Rest (table m w₀ l₀ : List ℕ) (modes : ℕ) (c₀ : Cursor) (n₀ : ℕ) (ws : Fields) (w l : List ℕ) (k node : ℕ) (c : Cursor) (n : ℕ) : Type 0 where
   pub rest : Fields
   pub are : AreFields table w₀ node rest
   pub counted : fieldCount rest ≡ k
   pub deep : depthFields rest ≤ depthFields ws
-  pub leads : (path : ℕ) → path + depthFields ws ≤ 32
-      → Leads m (mostRows (length l₀)) w₀ l₀ n₀ (all (inMessage m) modes (heldIn table) ws path (stateOf m (mostRows (length l₀)) w₀ c₀ n₀))
-      w l n (all (inMessage m) modes (heldIn table) rest path (stateOf m (mostRows (length l₀)) w c n))
+  pub leads : Leads m (mostRows (length l₀)) w₀ l₀ n₀ (all (inMessage m) modes (heldIn table) ws (stateOf m (mostRows (length l₀)) w₀ c₀ n₀))
+      w l n (all (inMessage m) modes (heldIn table) rest (stateOf m (mostRows (length l₀)) w c n))
 
 pub record FieldsAt (table m w₀ l₀ : List ℕ) (modes node₀ count : ℕ) (c₀ : Cursor) (n₀ : ℕ) (w l : List ℕ) (k node : ℕ) (c : Cursor) (n : ℕ) : Type 0 where
   pub lent : length l ≡ length l₀
@@ -127,7 +126,7 @@ module _ (table m w₀ l₀ : List ℕ) (modes node₀ count : ℕ) (c₀ : Curs
     ready = g;
     inside = i;
     same = same-self w₀;
-    rest = λ ws h e. record { rest = ws; are = h; counted = e; deep = omega arith; leads = λ path d. leads-self };
+    rest = λ ws h e. record { rest = ws; are = h; counted = e; deep = omega arith; leads = leads-self };
   }
 
   module _ (w l : List ℕ) (k node : ℕ) (c : Cursor) (n : ℕ) (x : FieldsAt table m w₀ l₀ modes node₀ count c₀ n₀ w l k node c n) (whole : Sized table) where
@@ -149,15 +148,15 @@ module _ (table m w₀ l₀ : List ℕ) (modes node₀ count : ℕ) (c₀ : Curs
           let b : fieldCount (y .rest) ≡ fieldCount (field o (f .first) (f .others)) = ap fieldCount (f .splits) in
           (omega (arith, y .deep, q .0), omega (arith, y .deep, q .1), omega (arith, y .counted, q .2))
 
-      field-does : {w₁ l₁ : List ℕ} {r : Step} (path : ℕ) → path + depthFields ws ≤ 32 → ReadsValue m w w₁ l l₁ c n r table modes node o
-          → Does m (mostRows (length l₀)) w w₁ n l l₁ r (valueAt m modes (heldIn table) path o (f .first) (stateOf m (mostRows (length l₀)) w c n))
-      field-does {w₁} {l₁} {r} path d v = subst (λ i. Does m (mostRows i) w w₁ n l l₁ r (valueAt m modes (heldIn table) path o (f .first) (stateOf m (mostRows i) w c n))) (x .lent)
-          (v .does (f .first) path (node-kept table w₀ w node (f .first) whole (x .same .at) (f .is)) (omega (arith, splits-depth .0)))
+      field-does : {w₁ l₁ : List ℕ} {r : Step} → ReadsValue m w w₁ l l₁ c n r table modes node o
+          → Does m (mostRows (length l₀)) w w₁ n l l₁ r (valueAt m modes (heldIn table) o (f .first) (stateOf m (mostRows (length l₀)) w c n))
+      field-does {w₁} {l₁} {r} v = subst (λ i. Does m (mostRows i) w w₁ n l l₁ r (valueAt m modes (heldIn table) o (f .first) (stateOf m (mostRows i) w c n))) (x .lent)
+          (v .does (f .first) (node-kept table w₀ w node (f .first) whole (x .same .at) (f .is)))
 
       -- all from here on, with the first apart
-      rest-splits : (path : ℕ) (s : State (inMessage m)) → all (inMessage m) modes (heldIn table) (y .rest) path s
-          ≡ (valueAt m modes (heldIn table) path o (f .first) s >>= (λ a. all (inMessage m) modes (heldIn table) (f .others) path (a .1) >>= (λ b. ok (a .0 ++ b .0, b .1))))
-      rest-splits path s = ap (λ vs. all (inMessage m) modes (heldIn table) vs path s) (f .splits) ∙ all-some modes (heldIn table) o (f .first) (f .others) path s
+      rest-splits : (s : State (inMessage m)) → all (inMessage m) modes (heldIn table) (y .rest) s
+          ≡ (valueAt m modes (heldIn table) o (f .first) s >>= (λ a. all (inMessage m) modes (heldIn table) (f .others) (a .1) >>= (λ b. ok (a .0 ++ b .0, b .1))))
+      rest-splits s = ap (λ vs. all (inMessage m) modes (heldIn table) vs s) (f .splits) ∙ all-some modes (heldIn table) o (f .first) (f .others) s
 
       field-next : {next n₁ : ℕ} {w₁ l₁ : List ℕ} {c₁ : Cursor} {r : Step} → next ≡ word w node → ReadsValue m w w₁ l l₁ c n r table modes node o → r ≡ Done c₁ n₁
           → Rest table m w₀ l₀ modes c₀ n₀ ws w₁ l₁ (k - 1) next c₁ n₁
@@ -169,7 +168,7 @@ module _ (table m w₀ l₀ : List ℕ) (modes node₀ count : ℕ) (c₀ : Curs
             are = subst (λ i. AreFields table w₀ i (f .others)) b (f .are);
             counted = omega (arith, splits-depth .2);
             deep = splits-depth .1;
-            leads = λ path d. record { onward = λ d₂. y .leads path d .onward (along (rest-splits path _) (seqs _ _ (field-does path d v) q d₂)) };
+            leads = record { onward = λ d₂. y .leads .onward (along (rest-splits _) (seqs _ _ (field-does v) q d₂)) };
           }
 
     module _ {left : ℕ} (g : FitFields table w₀ left node₀ count) where
@@ -182,7 +181,7 @@ module _ (table m w₀ l₀ : List ℕ) (modes node₀ count : ℕ) (c₀ : Curs
           → ReadsValue m w w₁ l l₁ c n r table modes node o → r ≡ Done c₁ n₁ → FieldsAt table m w₀ l₀ modes node₀ count c₀ n₀ w₁ l₁ (k - 1) next c₁ n₁
       fields-again z t b e₁ e₂ y q =
           let v = rw t at y in
-          let d = field-does (g .types) (g .are) (g .counted) z 0 (omega (arith, g .deep, g .most)) v in
+          let d = field-does (g .types) (g .are) (g .counted) z v in
           record {
             lent = e₁ ∙ x .lent;
             worked = e₂ ∙ x .worked;
@@ -194,10 +193,10 @@ module _ (table m w₀ l₀ : List ℕ) (modes node₀ count : ℕ) (c₀ : Curs
 
     pub fields-not : {w₁ l₁ : List ℕ} {r r′ : Step} {e : ℕ} {o : Bool} → (k ≡ 0 → ⊥) → o ≡ omittable (nodeAt table node) → ReadsValue m w w₁ l l₁ c n r table modes node o → r ≡ Refused e → r′ ≡ r
         → ReadsFields m w₀ w₁ l₀ l₁ c₀ n₀ r′ table modes node₀ count
-    fields-not z t y q u = rw u (record { does = λ ws path h e d. x .rest ws h e .leads path d .onward (along (rest-splits ws h e z path _) (seqs-not _ _ (field-does ws h e z path d (rw t at y)) q)) })
+    fields-not z t y q u = rw u (record { does = λ ws h e. x .rest ws h e .leads .onward (along (rest-splits ws h e z _) (seqs-not _ _ (field-does ws h e z (rw t at y)) q)) })
 
     pub fields-end : k ≡ 0 → ReadsFields m w₀ w l₀ l c₀ n₀ (Done c n) table modes node₀ count
     fields-end z = record {
-      does = λ ws path h e d. x .rest ws h e .leads path d .onward
-          (along (all-none modes (heldIn table) (x .rest ws h e .rest) path _ (x .rest ws h e .counted ∙ z)) (ends (mostRows (length l₀)) n c (x .ready) (x .inside)));
+      does = λ ws h e. x .rest ws h e .leads .onward
+          (along (all-none modes (heldIn table) (x .rest ws h e .rest) _ (x .rest ws h e .counted ∙ z)) (ends (mostRows (length l₀)) n c (x .ready) (x .inside)));
     }

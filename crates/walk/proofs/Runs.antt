@@ -101,23 +101,23 @@ entries-one : {m : List ℕ} (f : Read (inMessage m)) (s : State (inMessage m)) 
 unfolding entries _>>=_
 entries-one f s = with-none (f s)
 
-all-one : {m : List ℕ} (modes : ℕ) (held : ℕ → Held) (o : Bool) (v : Node) (vs : Fields) (path : ℕ) (s : State (inMessage m)) → fieldCount vs ≡ 0
-    → all (inMessage m) modes held (field o v vs) path s ≡ valueAt m modes held path o v s
+all-one : {m : List ℕ} (modes : ℕ) (held : ℕ → Held) (o : Bool) (v : Node) (vs : Fields) (s : State (inMessage m)) → fieldCount vs ≡ 0
+    → all (inMessage m) modes held (field o v vs) s ≡ valueAt m modes held o v s
 unfolding all fieldCount _>>=_
-all-one {m} modes held o v noField path s z = with-none (valueAt m modes held path o v s)
-all-one modes held o v (field o′ u us) path s z = absurd (omega arith)
+all-one {m} modes held o v noField s z = with-none (valueAt m modes held o v s)
+all-one modes held o v (field o′ u us) s z = absurd (omega arith)
 
 pub one-entry : {m w w′ l l′ table : List ℕ} {c : Cursor} {n modes node : ℕ} {r : Step} → ReadsRun m w w′ l l′ c n r table modes node true 1 → ReadsValue m w w′ l l′ c n r table modes node false
-one-entry x = record { does = λ v path h d. along (sym (entries-one _ _)) (x .entries refl .does v path h d) }
+one-entry x = record { does = λ v h. along (sym (entries-one _ _)) (x .entries refl .does v h) }
 
 pub as-entry : {m w w′ l l′ table : List ℕ} {c : Cursor} {n modes node : ℕ} {r : Step} → ReadsValue m w w′ l l′ c n r table modes node false → ReadsEntries m w w′ l l′ c n r table modes node 1
-as-entry x = record { does = λ v path h d. along (entries-one _ _) (x .does v path h d) }
+as-entry x = record { does = λ v h. along (entries-one _ _) (x .does v h) }
 
 pub as-field : {m w w′ l l′ table : List ℕ} {c : Cursor} {n modes node : ℕ} {r : Step} → ReadsValue m w w′ l l′ c n r table modes node (omittable (nodeAt table node)) → ReadsFields m w w′ l l′ c n r table modes node 1
 as-field {m} {w} {w′} {l} {l′} {table} {c} {n} {modes} {node} {r} x = record {
-  does = λ ws path h e d.
-      by-field _ _ _ _ (λ vs. path + depthFields vs ≤ 32 → Walks m w w′ c n l l′ r (all (inMessage m) modes (heldIn table) vs path)) node ws h (λ z. omega arith)
-      (λ v vs k a b i. along (all-one modes (heldIn table) (omittable (nodeAt table node)) v vs path _ (omega arith)) (x .does v path a (omega (arith, first-depth (omittable (nodeAt table node)) v vs .0)))) d;
+  does = λ ws h e.
+      by-field _ _ _ _ (λ vs. Walks m w w′ c n l l′ r (all (inMessage m) modes (heldIn table) vs)) node ws h (λ z. omega arith)
+      (λ v vs k a b. along (all-one modes (heldIn table) (omittable (nodeAt table node)) v vs _ (omega arith)) (x .does v a));
 }
 
 -- the type of the one field

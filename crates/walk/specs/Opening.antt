@@ -7,11 +7,10 @@ use lib.IntN.{ℤ}
 use Rattle.format.specs.Answer.{Answer, ok, refuse, _>>=_}
 use Rattle.format.specs.Table.{Node, Held, wireOf}
 use Rattle.format.specs.Row.{bare, nullRow, absentRow}
-use Rattle.format.specs.Read.{inMessage, State, Read, absentLabel, isLabel, isNull, takeLabel, oneRow, value, node, wire, nodesOf}
+use Rattle.format.specs.Read.{inMessage, State, Read, absentLabel, isLabel, isNull, takeLabel, oneRow, value, node, wire}
 use Rattle.label.specs.declared.cursor.Cursor.{Cursor}
 use Rattle.leaf.specs.State.{Ready, Takes}
 use Rattle.leaf.specs.Meaning.{frontOf}
-use Rattle.typed.specs.Typed.{pathTo}
 use Rattle.walk.specs.declared.opening.Opening as opening
 use Rattle.walk.specs.declared.opening.Meant as meant
 
@@ -46,12 +45,12 @@ module _ (m : List ℕ) (modes : ℕ) where
 
   module _ (held : ℕ → Held) where
     -- what is left to be read then
-    unfoldable pub rest : Node → ℕ → Opened → Read (inMessage m)
-    rest v path (gone kind) s = oneRow (inMessage m) (bare kind 0) s
-    rest v path (here l) s = wire (inMessage m) modes held (wireOf v) (pathTo v path) l s
+    unfoldable pub rest : Node → Opened → Read (inMessage m)
+    rest v (gone kind) s = oneRow (inMessage m) (bare kind 0) s
+    rest v (here l) s = wire (inMessage m) modes held (wireOf v) l s
 
-    abbrev pub valueAt : ℕ → Bool → Node → Read (inMessage m)
-    valueAt path o v s = value (inMessage m) path o (nodesOf v) (λ l t. node (inMessage m) modes held v path l t) s
+    abbrev pub valueAt : Bool → Node → Read (inMessage m)
+    valueAt o v s = value (inMessage m) o (λ l t. node (inMessage m) modes held v l t) s
 
 -- What the code's answers say of this.
 abbrev pub meantOf : ℤ → meant.Meant → Answer Opened

@@ -17,16 +17,16 @@ use Rattle.typed.specs.Typed.{heldIn, IsNode, IsWire, AreFields}
 -- The work and the rows before and after a step that began with the core at c and n rows, over the type at a node.
 module _ (m work work′ before now : List ℕ) (c : Cursor) (n : ℕ) (r : Step) (table : List ℕ) (modes node : ℕ) where
   pub record ReadsValue (omittable : Bool) : Type 0 where
-    pub does : (v : Node) (path : ℕ) → IsNode table work node v → path + depth v ≤ 32 → Walks m work work′ c n before now r (valueAt m modes (heldIn table) path omittable v)
+    pub does : (v : Node) → IsNode table work node v → Walks m work work′ c n before now r (valueAt m modes (heldIn table) omittable v)
 
   pub record ReadsWire (front : Option ℤ) : Type 0 where
-    pub does : (v : Wire) (path : ℕ) → IsWire table work node v → path + depthWire v ≤ 32 → Walks m work work′ c n before now r (wire (inMessage m) modes (heldIn table) v path front)
+    pub does : (v : Wire) → IsWire table work node v → Walks m work work′ c n before now r (wire (inMessage m) modes (heldIn table) v front)
 
   pub record ReadsFields (count : ℕ) : Type 0 where
-    pub does : (ws : Fields) (path : ℕ) → AreFields table work node ws → fieldCount ws ≡ count → path + depthFields ws ≤ 32 → Walks m work work′ c n before now r (all (inMessage m) modes (heldIn table) ws path)
+    pub does : (ws : Fields) → AreFields table work node ws → fieldCount ws ≡ count → Walks m work work′ c n before now r (all (inMessage m) modes (heldIn table) ws)
 
   pub record ReadsEntries (count : ℕ) : Type 0 where
-    pub does : (v : Node) (path : ℕ) → IsNode table work node v → path + depth v ≤ 32 → Walks m work work′ c n before now r (entries (inMessage m) count (valueAt m modes (heldIn table) path false v))
+    pub does : (v : Node) → IsNode table work node v → Walks m work work′ c n before now r (entries (inMessage m) count (valueAt m modes (heldIn table) false v))
 
   -- so many values by one loop: entries or fields
   pub record ReadsRun (repeated : Bool) (count : ℕ) : Type 0 where

@@ -59,8 +59,7 @@ fn block(
     leaf::read_leaf(m, rows, work, modes, key, leaf, dedup, front, c, n)
 }
 
-// The value at a node, on a path of at most `left` nodes from here on. No path of a checked table has more than 32, so
-// that 33 never comes.
+// The value at a node, on a path of at most `left` nodes from here on: a checked table's has at most 32.
 fn value(
     table: &[u8],
     m: &[u8],
