@@ -12,6 +12,7 @@ model cases --seed S --count N [--kinds TRWLP]           print generated cases w
 model store DIR [--seed S] [--kinds TRWLP] [--blocks N]    stored cases for the program vectors, in DIR
     [--with FILE]                                        with those of FILE among them
 model show FILE                                          the stored cases, one a line; each must be as the model stores it
+model damage FILE DIR                                    copies of FILE with one answer wrong each, and what vectors must say
 model sample DIR                                         a small night: DIR/night.table and DIR/night.message
 model small                                              search all spellings of small trees
 model compare --seed S --count N [--kinds TRWLP]         generated cases through libargo.a
@@ -40,6 +41,7 @@ fn run(words: &[&str]) -> Result<bool, String> {
         ["cases", rest @ ..] => cases(&Options::parse(rest)?),
         ["store", dir, rest @ ..] => keep(dir, &Options::parse(rest)?),
         ["show", file] => show(file),
+        ["damage", file, dir] => damage(file, dir),
         ["sample", dir] => {
             put(dir, "night.table", &sample::table())?;
             put(dir, "night.message", &sample::message())?;
@@ -74,6 +76,10 @@ fn run(words: &[&str]) -> Result<bool, String> {
 
 fn text(file: &str) -> Result<String, String> {
     std::fs::read_to_string(file).map_err(|error| format!("{file}: {error}"))
+}
+
+fn bytes(file: &str) -> Result<Vec<u8>, String> {
+    std::fs::read(file).map_err(|error| format!("{file}: {error}"))
 }
 
 fn put(dir: &str, name: &str, bytes: &[u8]) -> Result<(), String> {
@@ -186,6 +192,18 @@ fn keep(dir: &str, options: &Options) -> Result<bool, String> {
 }
 
 fn show(file: &str) -> Result<bool, String> {
-    let bytes = std::fs::read(file).map_err(|error| format!("{file}: {error}"))?;
-    print_cases(store::decode(&bytes)?.into_iter())
+    print_cases(store::decode(&bytes(file)?)?.into_iter())
+}
+
+/// Copies of the stored cases that the program `vectors` must find fault with: what it must say stands beside each.
+fn damage(file: &str, dir: &str) -> Result<bool, String> {
+    for copy in store::damaged(&bytes(file)?)? {
+        put(dir, &format!("{}.stdin", copy.name), &copy.file)?;
+        put(
+            dir,
+            &format!("{}.stdout", copy.name),
+            copy.report.as_bytes(),
+        )?;
+    }
+    Ok(true)
 }

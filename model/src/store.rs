@@ -14,9 +14,10 @@
 //! ```
 
 use std::collections::HashSet;
+use std::ops::Range;
 
 use crate::case::{Case, Reply};
-use crate::gen::{fixed, limits, texts, Cases};
+use crate::gen::{fixed, limits, texts, Cases, KINDS};
 use crate::rng::Rng;
 use crate::rows::Seen;
 use crate::Answer;
@@ -242,12 +243,27 @@ fn runs<T: PartialEq>(list: &[T]) -> Vec<(usize, &[T])> {
 
 /// The cases of a stored file, in order; an error where one is not as the model would store it.
 pub fn decode(file: &[u8]) -> Result<Vec<Case>, String> {
+    Ok(stored(file)?
+        .into_iter()
+        .map(|stored| stored.case)
+        .collect())
+}
+
+/// A case of a file, and the place in it of its answer.
+struct Stored {
+    case: Case,
+    answer: Range<usize>,
+}
+
+fn stored(file: &[u8]) -> Result<Vec<Stored>, String> {
     let mut cases = Vec::new();
-    for block in file.chunks(BLOCK) {
+    for (i, block) in file.chunks(BLOCK).enumerate() {
+        let place = |left: &[u8]| i * BLOCK + block.len() - left.len();
         let mut rest = block;
         while rest.first().is_some_and(|&letter| letter != 0) {
             let number = cases.len() + 1;
-            let case = case(rest).ok_or_else(|| format!("case {number} cannot be read"))?;
+            let mut answer = rest;
+            let case = case(&mut answer).ok_or_else(|| format!("case {number} cannot be read"))?;
             rest = encode(&case)
                 .and_then(|stored| rest.strip_prefix(&stored[..]))
                 .ok_or_else(|| {
@@ -256,7 +272,8 @@ pub fn decode(file: &[u8]) -> Result<Vec<Case>, String> {
                         case.answer()
                     )
                 })?;
-            cases.push(case);
+            let answer = place(answer)..place(rest);
+            cases.push(Stored { case, answer });
         }
         if rest.iter().any(|&byte| byte != 0) {
             return Err(format!("bytes after case {}", cases.len()));
@@ -265,11 +282,50 @@ pub fn decode(file: &[u8]) -> Result<Vec<Case>, String> {
     Ok(cases)
 }
 
-/// The case in front, without its answer.
-fn case(stored: &[u8]) -> Option<Case> {
-    let (letter, mut rest) = stored.split_first()?;
-    let from = &mut rest;
-    Some(match letter {
+/// A copy of a stored file with one answer wrong.
+pub struct Damaged {
+    pub name: String,
+    pub file: Vec<u8>,
+    /// What the program has to say of it.
+    pub report: String,
+}
+
+/// Of each letter's first case with something to show, two copies: one has the answer's number wrong, the other the last
+/// of the numbers, words or bytes that are stored with it. A part has no number.
+pub fn damaged(file: &[u8]) -> Result<Vec<Damaged>, String> {
+    let cases = stored(file)?;
+    let mut copies = Vec::new();
+    for letter in KINDS.chars() {
+        let shows = |stored: &Stored| match stored.case.answer() {
+            Reply::Part(part) => !part.is_empty(),
+            reply => reply.answer().is_some_and(|answer| answer.is_success()),
+        };
+        let chosen = (1..)
+            .zip(&cases)
+            .find(|(_, stored)| stored.case.kind() == letter && shows(stored));
+        let Some((number, Stored { answer, .. })) = chosen else {
+            return Err(format!("no case {letter} has something to show"));
+        };
+        let mut damage = |what: &str, at: usize| {
+            let mut file = file.to_vec();
+            file[at] ^= 1;
+            copies.push(Damaged {
+                name: format!("{letter}-{what}"),
+                file,
+                report: format!("differs: case {number}\n{} cases, 1 differ\n", cases.len()),
+            });
+        };
+        if letter != 'P' {
+            damage("number", answer.start);
+        }
+        damage("last", answer.end - 1);
+    }
+    Ok(copies)
+}
+
+/// The case in front, and then what follows is its answer.
+fn case(from: &mut &[u8]) -> Option<Case> {
+    Some(match get_byte(from)? {
         b'T' => Case::Table {
             work: get_number(from)? as usize,
             table: get_bytes(from)?,
