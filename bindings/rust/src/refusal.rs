@@ -100,7 +100,7 @@ pub(crate) enum Call {
 }
 
 /// Those whose second number is always 0; 28 is among them for reading.
-const PLAIN: [Refusal; 23] = [
+const PLAIN: [Refusal; 22] = [
     Refusal::WorkShort,
     Refusal::TableMark,
     Refusal::TableVersion,
