@@ -11,9 +11,9 @@ use Rattle.format.specs.Row.{Place, Row, rowWidth, words}
 use Rattle.laws.specs.Facts.{absurd-ok}
 use Rattle.label.specs.declared.cursor.Cursor.{Cursor}
 use Rattle.table.specs.declared.Answer as code
-use Rattle.leaf.specs.declared.Step.{Step}
-use Rattle.leaf.specs.declared.Step.the-variants.{Done, Refused}
-use Rattle.leaf.specs.Does.{words-length}
+use Rattle.read_leaf.specs.declared.Step.{Step}
+use Rattle.read_leaf.specs.declared.Step.the-variants.{Done, Refused}
+use Rattle.read_leaf.specs.Does.{words-length}
 use Rattle.reader.specs.Reader.{Gives, usedBy, Answers, Stays}
 
 -- what stands behind the first n is set to 0

@@ -9,7 +9,7 @@ use Rattle.format.specs.Row.{words}
 use Rattle.format.specs.Read.{readChecked, read}
 use Rattle.table.specs.Passes.{Leaves, refused-zeros}
 use Rattle.laws.specs.Refusals.{refusal-is}
-use Rattle.typed.specs.Root.{check-then}
+use Rattle.wire_types.specs.Root.{check-then}
 use Rattle.reader.specs.Reader.{rowsOf}
 
 module _ (table m w l : List ℕ) where

@@ -13,19 +13,19 @@ use Rattle.format.specs.Modes.{inlineEverything, readHeader}
 use Rattle.format.specs.Row.{Place, Row, words}
 use Rattle.format.specs.Read.{Reading, inMessage, State, split, noLiterals, walk, isDone, readChecked}
 use Rattle.label.specs.declared.cursor.Cursor.{Cursor}
-use Rattle.pieces.specs.declared.Header as pieces
-use Rattle.pieces.specs.Header.{headerOf}
-use Rattle.pieces.specs.Pieces.{Inside}
+use Rattle.read_pieces.specs.declared.Header as pieces
+use Rattle.modes.specs.Header.{headerOf}
+use Rattle.read_pieces.specs.Pieces.{Inside}
 use Rattle.store.specs.Same.{Same}
-use Rattle.leaf.specs.declared.Step.{Step}
-use Rattle.leaf.specs.declared.Step.the-variants.{Done, Refused}
-use Rattle.leaf.specs.State.{mostRows, Ready, cursorOf, stateOf, Does}
-use Rattle.leaf.specs.Does.{done-ready, done-inside, done-same}
-use Rattle.typed.specs.Typed.{Sized, heldIn, FitsNode, Kept}
-use Rattle.typed.specs.Nodes.{node-kept}
-use Rattle.typed.specs.Root.{kept-sized, kept-held, kept-deep, kept-root, kept-fits, kept-still}
-use Rattle.walk.specs.Walk.{ReadsValue}
-use Rattle.walk.specs.Opening.{valueAt}
+use Rattle.read_leaf.specs.declared.Step.{Step}
+use Rattle.read_leaf.specs.declared.Step.the-variants.{Done, Refused}
+use Rattle.read_leaf.specs.State.{mostRows, Ready, cursorOf, stateOf, Does}
+use Rattle.read_leaf.specs.Does.{done-ready, done-inside, done-same}
+use Rattle.wire_types.specs.Typed.{Sized, heldIn, FitsNode, Kept}
+use Rattle.wire_types.specs.Nodes.{node-kept}
+use Rattle.wire_types.specs.Root.{kept-sized, kept-held, kept-deep, kept-root, kept-fits, kept-still}
+use Rattle.read_walk.specs.Walk.{ReadsValue}
+use Rattle.read_walk.specs.Opening.{valueAt}
 use Rattle.reader.specs.declared.Begun as begun
 use Rattle.reader.specs.Reader.{isSized, rowsOf, Gives, start, begunOf, BegunIn, Begins, IsDone}
 

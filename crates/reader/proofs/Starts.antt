@@ -14,17 +14,17 @@ use Rattle.format.specs.Modes.{inlineEverything}
 use Rattle.format.specs.Read.{Reading, split, noLiterals}
 use Rattle.laws.specs.Modes.{inline-is, inline-not}
 use Rattle.label.specs.declared.cursor.Cursor.{Cursor}
-use Rattle.pieces.specs.declared.Parts.{Parts}
-use Rattle.pieces.specs.declared.Parts.the-variants.{Found, Bad}
-use Rattle.pieces.specs.Chain.{waitingOf, waiting-none}
-use Rattle.pieces.specs.Pieces.{readingOf, Blocks, no-blocks, partsOf, Stand, Parted}
+use Rattle.read_pieces.specs.declared.Parts.{Parts}
+use Rattle.read_pieces.specs.declared.Parts.the-variants.{Found, Bad}
+use Rattle.read_pieces.specs.Chain.{waitingOf, waiting-none}
+use Rattle.read_pieces.specs.Pieces.{readingOf, Blocks, no-blocks, partsOf, Stand, Parted}
 use Rattle.store.specs.Store.{empty, lookup, rested}
 use Rattle.store.specs.Words.{Moved, Cleared}
 use Rattle.store.specs.Same.{Same}
 use Rattle.store.specs.Keeping.{moved, cleared}
-use Rattle.pages.specs.Words.{storeOf, Changes}
-use Rattle.pages.specs.Laws.{keeping}
-use Rattle.leaf.specs.State.{Ready, stateOf}
+use Rattle.read_literals.specs.Words.{storeOf, Changes}
+use Rattle.read_literals.specs.Laws.{keeping}
+use Rattle.read_leaf.specs.State.{Ready, stateOf}
 use Rattle.reader.specs.declared.Begun as begun
 use Rattle.reader.specs.Reader.{isSized, start, Begins}
 

@@ -11,8 +11,8 @@ use lib.ListN.{length, take, drop, length-take, length-drop, drop-of-length-le}
 use borrow.Author.Tests.{eq-eqb, ne-eqb, eqb-true}
 use Rattle.format.specs.Read.{Reading, inMessage, nth, isRead, allRead, isDone}
 use Rattle.label.specs.declared.cursor.Cursor.{Cursor}
-use Rattle.pieces.specs.Chain.{waitingOf, none-waiting}
-use Rattle.pieces.specs.Pieces.{readingOf, Inside}
+use Rattle.read_pieces.specs.Chain.{waitingOf, none-waiting}
+use Rattle.read_pieces.specs.Pieces.{readingOf, Inside}
 use Rattle.store.specs.declared.Touched.{Touched}
 use Rattle.store.specs.declared.Reading as code
 use Rattle.store.specs.Lists.{upto, upto-length, upto-nth}
@@ -20,8 +20,8 @@ use Rattle.store.specs.Store.{lookup}
 use Rattle.store.specs.Words.{keyOf, readingOf as placeOf, slotOf, slotCount, slotsOf, restOf}
 use Rattle.store.specs.Meaning.{touched, reading}
 use Rattle.store.specs.Laws.{drop-nth}
-use Rattle.pages.specs.Words.{storeOf}
-use Rattle.leaf.specs.State.{Ready, cursorOf}
+use Rattle.read_literals.specs.Words.{storeOf}
+use Rattle.read_leaf.specs.State.{Ready, cursorOf}
 use Rattle.reader.specs.Reader.{AllRead, IsDone}
 
 read-length : (m : List ℕ) (p : Reading) → Inside m (cursorOf p) → length (take (p .end - p .at) (drop (p .at) m)) ≡ p .end - p .at

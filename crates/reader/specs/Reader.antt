@@ -13,13 +13,13 @@ use Rattle.format.specs.Modes.{inlineEverything}
 use Rattle.format.specs.Read.{inMessage, State, split, noLiterals, allRead, isDone, readChecked}
 use Rattle.table.specs.declared.Answer as code
 use Rattle.label.specs.declared.cursor.Cursor.{Cursor}
-use Rattle.pieces.specs.Pieces.{Inside}
+use Rattle.read_pieces.specs.Pieces.{Inside}
 use Rattle.store.specs.Same.{Same}
-use Rattle.pages.specs.Words.{storeOf}
-use Rattle.typed.specs.Typed.{Kept}
-use Rattle.leaf.specs.declared.Step.{Step}
-use Rattle.leaf.specs.declared.Step.the-variants.{Done, Refused}
-use Rattle.leaf.specs.State.{Ready, stateOf}
+use Rattle.read_literals.specs.Words.{storeOf}
+use Rattle.wire_types.specs.Typed.{Kept}
+use Rattle.read_leaf.specs.declared.Step.{Step}
+use Rattle.read_leaf.specs.declared.Step.the-variants.{Done, Refused}
+use Rattle.read_leaf.specs.State.{Ready, stateOf}
 use Rattle.reader.specs.declared.Begun.{Begun}
 use Rattle.reader.specs.declared.Begun.the-variants.{Core, Bad}
 

@@ -1,6 +1,6 @@
 // Refusal 30: whether bytes or blocks are left unused.
 ghost use mathlib.Core.Path.{_≡_};
-ghost use Rattle.pages.specs.Words.{Good};
+ghost use Rattle.read_literals.specs.Words.{Good};
 ghost use Rattle.reader.specs.Reader.{AllRead, IsDone};
 use label::Cursor;
 

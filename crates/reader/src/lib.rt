@@ -5,16 +5,16 @@ ghost use lib.ListN.{length};
 ghost use Rattle.format.specs.Answer.{number, second, output, zeros};
 ghost use Rattle.format.specs.Row.{words};
 ghost use Rattle.format.specs.Read.{read as readOf};
-ghost use Rattle.typed.specs.Typed.{Kept};
+ghost use Rattle.wire_types.specs.Typed.{Kept};
 ghost use Rattle.reader.specs.Reader.{isSized, rowsOf, Begins, Gives, usedBy, Answers, Stays};
 
 mod done;
 
 use format::MOST_BYTES;
 use label::Cursor;
-use leaf::Step;
-use pieces::Header;
-use pieces::Parts;
+use modes::Header;
+use read_leaf::Step;
+use read_pieces::Parts;
 use table::Answer;
 
 // Where the core stands, or the message is not cut into pieces.
@@ -45,7 +45,7 @@ fn begin(m: &[u8], work: &mut [u32], modes: u64) -> Begun
         store::set_rest(work, end, end);
         return Begun::Core(Cursor { at: 1, end });
     }
-    let Parts::Found(core, rest) = pieces::part(m) else {
+    let Parts::Found(core, rest) = read_pieces::part(m) else {
         return Begun::Bad;
     };
     store::set_rest(work, rest.at, rest.end);
@@ -60,13 +60,13 @@ fn rows_of(table: &[u8], m: &[u8], rows: &mut [u64], work: &mut [u32]) -> Step
     if !is_sized(m) {
         return Step::Refused(20);
     }
-    let Header::Modes(modes) = pieces::read_header(m[0]) else {
+    let Header::Modes(modes) = modes::read_header(m[0]) else {
         return Step::Refused(21);
     };
     let Begun::Core(core) = begin(m, work, modes) else {
         return Step::Refused(22);
     };
-    let r = walk::root(table, m, rows, work, modes, core);
+    let r = read_walk::root(table, m, rows, work, modes, core);
     let Step::Done(end, _) = r else {
         return r;
     };

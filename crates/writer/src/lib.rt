@@ -6,18 +6,18 @@ ghost use Rattle.format.specs.Answer.{number, second, output, zeros};
 ghost use Rattle.format.specs.Modes.{inlineEverything};
 ghost use Rattle.format.specs.Row.{rowCount};
 ghost use Rattle.format.specs.Write.{areWhole, write as writeOf};
-ghost use Rattle.chains.specs.Words.{Good};
-ghost use Rattle.plan.specs.Layout.{messageLength};
-ghost use Rattle.emit.specs.State.{slotsOf};
-ghost use Rattle.typed.specs.Typed.{Kept};
+ghost use Rattle.write_literals.specs.Words.{Good};
+ghost use Rattle.write_passes.specs.Layout.{messageLength};
+ghost use Rattle.write_bytes.specs.State.{slotsOf};
+ghost use Rattle.wire_types.specs.Typed.{Kept};
 ghost use Rattle.writer.specs.Writer.{Within, Passes, isOver, roomFor, CountsIn, Fits, PutsIn, Makes, messageIn};
 ghost use Rattle.writer.specs.Demands.{Answers, Accepts, RoundTrip, Shortest, NoRoom, Rewrites};
-use fit::Pass;
-use fit::Step;
 use format::MOST_BYTES;
 use format::MOST_ROWS;
 use format::ROW_WIDTH;
 use table::Answer;
+use write_row::Pass;
+use write_row::Step;
 
 // So many bytes; or a refusal's number and second number.
 enum Size {
@@ -63,7 +63,7 @@ fn count(
     ensures { λ r. ⌜ CountsIn modes (now (table .entry)) (now (pool .entry)) (now (rows .entry)) (now (out .entry)) (now (work .entry)) (now (out .exit)) (now (work .exit)) r ⌝ }
 {
     store::clear(work);
-    let r = pass::root(table, rows, pool, out, work, pass_in(modes, false), 0);
+    let r = write_walk::root(table, rows, pool, out, work, pass_in(modes, false), 0);
     match r {
         Step::Refused(number, second) => Size::Refused(number, second),
         Step::Done(next, core) => {
@@ -84,7 +84,7 @@ fn measure(work: &[u32], modes: u64, core: usize, lent: usize) -> Size
     if over.at != 0 {
         return Size::Refused(32, 0);
     }
-    let size = emit::message_length(work, modes % 2 == 1, core);
+    let size = write_bytes::message_length(work, modes % 2 == 1, core);
     if lent < size {
         return Size::Refused(43, 0);
     }
@@ -107,8 +107,8 @@ fn put(
     requires { ⌜ Fits modes (now table) (now pool) (now rows) (now out) (now work) core ⌝ }
     ensures { λ _. ⌜ PutsIn modes (now (table .entry)) (now (pool .entry)) (now (rows .entry)) (now (out .exit)) ⌝ }
 {
-    let start = emit::lay_out(out, work, modes, core);
-    pass::root(table, rows, pool, out, work, pass_in(modes, true), start);
+    let start = write_bytes::lay_out(out, work, modes, core);
+    write_walk::root(table, rows, pool, out, work, pass_in(modes, true), start);
 }
 
 // The message at the front of the output, and its size.
@@ -123,7 +123,7 @@ fn message(
     requires { ⌜ Kept (now table) (now work) ⌝ }
     ensures { λ r. ⌜ Makes (now (out .exit)) r (messageIn (now (table .entry)) modes (now (rows .entry)) (now (pool .entry)) (length (now (out .entry)))) ⌝ }
 {
-    if !pieces::are_allowed(modes) {
+    if !modes::are_allowed(modes) {
         return Size::Refused(40, 0);
     }
     if !are_whole(rows, pool) {

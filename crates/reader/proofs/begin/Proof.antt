@@ -2,7 +2,7 @@
 use native.Mathlib.Omega.{arith}
 use denote.Ref.{now}
 use Rattle.store.specs.Keeping.{cleared}
-use Rattle.pages.specs.Laws.{keeping}
+use Rattle.read_literals.specs.Laws.{keeping}
 use Rattle.reader.proofs.Starts.{begin-inline, begin-bad, begin-found, rest-small}
 use borrow.Author.Needs.{needs}
 use Rattle.reader.proofs.begin.Statement.{statement}

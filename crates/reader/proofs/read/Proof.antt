@@ -5,7 +5,7 @@ use Rattle.reader.proofs.Checks.{check-refuses, read-is}
 use Rattle.format.specs.Answer.{number, second, output, zeros}
 use Rattle.format.specs.Row.{words}
 use lib.ListN.{length}
-use Rattle.typed.specs.Root.{check-keeps}
+use Rattle.wire_types.specs.Root.{check-keeps}
 use borrow.Author.Needs.{needs}
 use Rattle.reader.proofs.read.Statement.{statement}
 use Rattle.reader.proofs.read.Tie as tie

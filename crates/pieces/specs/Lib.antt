@@ -1,3 +1,0 @@
-pub mod Header
-pub mod Chain
-pub mod Pieces

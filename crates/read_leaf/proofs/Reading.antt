@@ -1,0 +1,63 @@
+-- Reading at a cursor is reading at the place that it stands for. Assumes nothing.
+use mathlib.Core.Path.{_≡_, sym, ap, _∙_}
+use mathlib.Core.List.{List, [], _∷_}
+use Prim.Native.Nat.{ℕ, zero, suc, _+_, _-_, _<_, _≤_}
+use native.Mathlib.Nat.{sub-zero, zero-sub, suc-sub-suc}
+use native.Mathlib.Omega.{arith}
+use lib.IntN.{ℤ}
+use lib.ListN.{length, take, drop}
+use lib.Seq.{slice, length-slice, take-nil, take-length, length-take-le}
+use borrow.Author.Tests.{le-leb, lt-leb}
+use Rattle.format.specs.Answer.{ok, refuse, needAt, orRefuse, _>>=_, _>>_}
+use Rattle.format.specs.Label.{readLabel}
+use Rattle.format.specs.Read.{inMessage, readNumber, readBytes}
+use Rattle.label.specs.declared.cursor.Cursor.{Cursor}
+use Rattle.label.specs.declared.cursor.Label.the-variants.{Got, Bad}
+use Rattle.label.specs.Cursor.{cursor, answer, labelAt}
+use Rattle.label.specs.Moved.{label-moved, label-bad}
+use Rattle.read_pieces.specs.Pieces.{readingOf, Inside}
+
+pub take-drop : {X : Type 0} (n k : ℕ) (l : List X) → take (k - n) (drop n l) ≡ drop n (take k l)
+take-drop zero k l = rw sub-zero
+take-drop (suc n) zero l = rw zero-sub
+take-drop (suc n) (suc k) [] = take-nil (suc k - suc n)
+take-drop (suc n) (suc k) (x ∷ l) = rw suc-sub-suc (take-drop n k l)
+
+module _ (m : List ℕ) (c : Cursor) where
+  -- what stands behind the piece makes no difference
+  pub label-within : c .end ≤ length m → labelAt (take (c .end) m) (cursor (c .at) (length (take (c .end) m))) ≡ labelAt m c
+  unfolding labelAt
+  label-within h =
+      ap (λ l. answer Got Bad (length (take (c .end) m)) (readLabel (drop (c .at) l))) (take-length (take (c .end) m))
+      ∙ ap (λ n. answer Got Bad n (readLabel (slice (c .at) (c .end) m))) (length-take-le (c .end) m h)
+
+  left-is : inMessage m .left (readingOf c) ≡ slice (c .at) (c .end) m
+  left-is = take-drop (c .at) (c .end) m
+
+  module _ (i : Inside m c) where
+    left-size : length (inMessage m .left (readingOf c)) ≡ c .end - c .at
+    left-size = ap length left-is ∙ length-slice (c .at) (c .end) m (i .inside)
+
+    pub number-got : (l : ℤ) (next : Cursor) → labelAt m c ≡ Got l next → readNumber (inMessage m) (readingOf c) ≡ ok (l, readingOf next)
+    unfolding readNumber orRefuse _>>=_
+    number-got l next e =
+        let v = label-moved m c l next (i .inside) e in
+        let size : length (slice (next .at) (c .end) m) ≡ c .end - next .at = length-slice (next .at) (c .end) m (i .inside) in
+        let at : c .at + (c .end - c .at - (c .end - next .at)) ≡ next .at = omega (arith, v .at, v .inside) in
+        let end : c .end ≡ next .end = sym (v .end) in
+        rw (left-is, v .is, length-slice (c .at) (c .end) m (i .inside), size, at, end)
+
+    pub number-bad : labelAt m c ≡ Bad → readNumber (inMessage m) (readingOf c) ≡ refuse 23 0
+    unfolding readNumber orRefuse _>>=_
+    number-bad e = rw (left-is, label-bad m c e)
+
+    pub bytes-got : (size : ℕ) → size ≤ c .end - c .at → readBytes (inMessage m) size (readingOf c) ≡ ok (record { start = c .at; size = size }, readingOf (cursor (c .at + size) (c .end)))
+    unfolding readBytes needAt _>>_
+    bytes-got size h = rw (left-size, le-leb size (c .end - c .at) h)
+
+    pub bytes-not : (size : ℕ) → c .end - c .at < size → readBytes (inMessage m) size (readingOf c) ≡ refuse 27 0
+    unfolding readBytes needAt _>>_
+    bytes-not size h = rw (left-size, lt-leb size (c .end - c .at) h)
+
+    pub number-inside : (l : ℤ) (next : Cursor) → labelAt m c ≡ Got l next → Inside m next × (next .end ≡ c .end)
+    number-inside l next e = let v = label-moved m c l next (i .inside) e in (record { ordered = omega (arith, v .inside, v .end); inside = omega (arith, i .inside, v .end) }, v .end)

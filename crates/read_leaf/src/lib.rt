@@ -1,0 +1,167 @@
+// Reading one value that has nothing below it: its label and its bytes, and the row that shows it.
+ghost use mathlib.Core.Path.{_≡_};
+ghost use Prim.Native.Nat.{_≤_, _<_};
+ghost use Rattle.format.specs.Read.{inMessage, leaf as leafOf};
+ghost use Rattle.format.specs.Table.{varint as varintLeaf, float64 as floatLeaf, fixed as fixedLeaf};
+ghost use Rattle.read_pieces.specs.Pieces.{Inside};
+ghost use Rattle.read_leaf.specs.State.{Ready, Walks};
+ghost use Rattle.read_leaf.specs.Meaning.{frontOf, heldLeaf, heldOf, textRow};
+ghost use Rattle.read_leaf.specs.Contracts.{PutsPart, Boolean, Unlabelled};
+use block::Number;
+use block::Part;
+use front::Front;
+use label::Cursor;
+use label::Label;
+use rows::kind;
+use table::nodes::Leaf;
+
+mod block;
+pub mod front;
+pub mod push;
+mod text;
+
+// The core as far as it has been read, and how many rows there are; or the refusal, which ends the whole walk.
+pub enum Step {
+    Done(Cursor, usize),
+    Refused(u64),
+}
+
+pub fn boolean(m: &[u8], rows: &mut [u64], front: Front, c: Cursor, n: usize) -> Step
+    requires { ⌜ Inside (now m) c ⌝ }
+    ensures { λ r. ⌜ Boolean (now (m .entry)) front c n (now (rows .entry)) (now (rows .exit)) r ⌝ }
+{
+    let Label::Got(l, next) = front::own_label(m, front, c) else {
+        return Step::Refused(23);
+    };
+    if front::is_label(l, 0) {
+        return push::row(rows, n, kind::FALSE, 0, 0, next);
+    }
+    if front::is_label(l, 1) {
+        return push::row(rows, n, kind::TRUE, 0, 0, next);
+    }
+    Step::Refused(24)
+}
+
+// The row of a part that was read.
+fn put_part(rows: &mut [u64], n: usize, kind: u64, part: Part) -> Step
+    ensures { λ r. ⌜ PutsPart n kind part (now (rows .entry)) (now (rows .exit)) r ⌝ }
+{
+    match part {
+        Part::Refused(number) => Step::Refused(number),
+        Part::At(start, size, c) => push::row(rows, n, kind, start as u64, size as u64, c),
+    }
+}
+
+fn varint(
+    m: &[u8],
+    rows: &mut [u64],
+    work: &mut [u32],
+    modes: u64,
+    key: usize,
+    front: Front,
+    c: Cursor,
+    n: usize,
+) -> Step
+    requires { ⌜ Ready (now m) (now work) × (key < 32) × Inside (now m) c ⌝ }
+    ensures { λ r. ⌜ Unlabelled (now (m .entry)) modes key varintLeaf front (now (work .entry)) (now (work .exit)) c n (now (rows .entry)) (now (rows .exit)) r ⌝ }
+{
+    if !front::is_bare(front) {
+        return Step::Refused(24);
+    }
+    let r = block::take_number(m, work, modes, key, c);
+    match r {
+        Number::Refused(number) => Step::Refused(number),
+        Number::Is(v, next) => push::row(rows, n, kind::INTEGER, label::word_of(v), 0, next),
+    }
+}
+
+fn float64(
+    m: &[u8],
+    rows: &mut [u64],
+    work: &mut [u32],
+    modes: u64,
+    key: usize,
+    front: Front,
+    c: Cursor,
+    n: usize,
+) -> Step
+    requires { ⌜ Ready (now m) (now work) × (key < 32) × Inside (now m) c ⌝ }
+    ensures { λ r. ⌜ Unlabelled (now (m .entry)) modes key floatLeaf front (now (work .entry)) (now (work .exit)) c n (now (rows .entry)) (now (rows .exit)) r ⌝ }
+{
+    if !front::is_bare(front) {
+        return Step::Refused(24);
+    }
+    let r = block::take_bytes(m, work, modes, key, 8, c);
+    match r {
+        Part::Refused(number) => Step::Refused(number),
+        Part::At(start, _, next) => {
+            push::row(rows, n, kind::FLOAT, block::word_at(m, start), 0, next)
+        }
+    }
+}
+
+fn fixed(
+    m: &[u8],
+    rows: &mut [u64],
+    work: &mut [u32],
+    modes: u64,
+    key: usize,
+    size: usize,
+    front: Front,
+    c: Cursor,
+    n: usize,
+) -> Step
+    requires { ⌜ Ready (now m) (now work) × (key < 32) × Inside (now m) c ⌝ }
+    ensures { λ r. ⌜ Unlabelled (now (m .entry)) modes key (fixedLeaf size) front (now (work .entry)) (now (work .exit)) c n (now (rows .entry)) (now (rows .exit)) r ⌝ }
+{
+    if !front::is_bare(front) {
+        return Step::Refused(24);
+    }
+    put_part(
+        rows,
+        n,
+        kind::FIXED,
+        block::take_bytes(m, work, modes, key, size, c),
+    )
+}
+
+// The kind of a text's row.
+fn text_kind(leaf: Leaf) -> u64
+    ensures { λ r. ⌜ r ≡ textRow (heldLeaf leaf) ⌝ }
+{
+    match leaf {
+        Leaf::String => kind::STRING,
+        Leaf::Bytes => kind::BYTES,
+        Leaf::Varint => kind::BYTES,
+        Leaf::Float64 => kind::BYTES,
+        Leaf::Fixed(_) => kind::BYTES,
+    }
+}
+
+// The value of a key, which holds `leaf` and deduplicates or not.
+pub fn read_leaf(
+    m: &[u8],
+    rows: &mut [u64],
+    work: &mut [u32],
+    modes: u64,
+    key: usize,
+    leaf: Leaf,
+    dedup: bool,
+    front: Front,
+    c: Cursor,
+    n: usize,
+) -> Step
+    requires { ⌜ Ready (now m) (now work) × (key < 32) × Inside (now m) c ⌝ }
+    ensures { λ r. ⌜ Walks (now (m .entry)) (now (work .entry)) (now (work .exit)) c n (now (rows .entry)) (now (rows .exit)) r
+        (leafOf (inMessage (now (m .entry))) modes (λ k. heldOf leaf dedup) key (heldLeaf leaf) (frontOf front)) ⌝ }
+{
+    match leaf {
+        Leaf::String | Leaf::Bytes => {
+            let part = text::text(m, work, modes, key, leaf, dedup, front, c);
+            put_part(rows, n, text_kind(leaf), part)
+        }
+        Leaf::Varint => varint(m, rows, work, modes, key, front, c, n),
+        Leaf::Float64 => float64(m, rows, work, modes, key, front, c, n),
+        Leaf::Fixed(size) => fixed(m, rows, work, modes, key, size, front, c, n),
+    }
+}

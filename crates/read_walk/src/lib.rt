@@ -1,0 +1,255 @@
+// The walk over the nodes of a checked table: a value asks for its fields or its entries, and those may be records and
+// arrays again.
+ghost use mathlib.Core.Path.{_≡_};
+ghost use mathlib.Core.Bool.{false};
+ghost use Prim.Native.Nat.{_+_, _*_, _≤_, _<_};
+ghost use lib.ListN.{length};
+ghost use Rattle.format.specs.Table.{nodeAt, RECORD, ARRAY, BLOCK};
+ghost use Rattle.read_pieces.specs.Pieces.{Inside};
+ghost use Rattle.read_leaf.specs.State.{Ready};
+ghost use Rattle.read_leaf.specs.Meaning.{frontOf};
+ghost use Rattle.wire_types.specs.Typed.{Sized, FitsNode, FitsWire};
+ghost use Rattle.wire_types.specs.Run.{FitRun};
+ghost use Rattle.read_walk.specs.Walk.{ReadsValue, ReadsWire, ReadsRun};
+
+pub mod descent;
+pub mod opening;
+
+use descent::Descent;
+use label::Cursor;
+use label::Label;
+use opening::Opening;
+use read_leaf::Step;
+use read_leaf::front;
+use read_leaf::front::Front;
+use read_leaf::front::Size;
+use read_leaf::push;
+use read_leaf::push::Put;
+use rows::kind;
+use table::nodes;
+
+// The same answer, made anew: a copy of it would copy the bytes behind a refusal's number too, which takes longer.
+fn again(r: Step) -> Step
+    ensures { λ same. ⌜ same ≡ r ⌝ }
+{
+    match r {
+        Step::Refused(number) => Step::Refused(number),
+        Step::Done(core, n) => Step::Done(core, n),
+    }
+}
+
+// The value of a BLOCK.
+fn block(
+    table: &[u8],
+    m: &[u8],
+    rows: &mut [u64],
+    work: &mut [u32],
+    modes: u64,
+    node: usize,
+    front: Front,
+    c: Cursor,
+    n: usize,
+) -> Step
+    requires { ⌜ Ready (now m) (now work) × Inside (now m) c × (nodeAt (now table) node .kind ≡ BLOCK) × (nodeAt (now table) node .argument < 32) × (15 + 4 * node ≤ length (now table)) ⌝ }
+    ensures { λ r. ⌜ ReadsWire (now (m .entry)) (now (work .entry)) (now (work .exit)) (now (rows .entry)) (now (rows .exit)) c n r (now (table .entry)) modes node (frontOf front) ⌝ }
+{
+    let key = nodes::argument_at(table, node);
+    let leaf = nodes::leaf_at(table, node + 1);
+    let dedup = nodes::deduplicates(table, node);
+    read_leaf::read_leaf(m, rows, work, modes, key, leaf, dedup, front, c, n)
+}
+
+// The value at a node, on a path of at most `left` nodes from here on: a checked table's has at most 32.
+fn value(
+    table: &[u8],
+    m: &[u8],
+    rows: &mut [u64],
+    work: &mut [u32],
+    modes: u64,
+    node: usize,
+    omittable: bool,
+    c: Cursor,
+    n: usize,
+    left: usize,
+) -> Step
+    requires { ⌜ Ready (now m) (now work) × Inside (now m) c × Sized (now table) × FitsNode (now table) (now work) left node ⌝ }
+    ensures { λ r. ⌜ ReadsValue (now (m .entry)) (now (work .entry)) (now (work .exit)) (now (rows .entry)) (now (rows .exit)) c n r (now (table .entry)) modes node omittable ⌝ }
+{
+    let nullable = nodes::kind_at(table, node) == nodes::NULLABLE;
+    let first = opening::open(m, modes, omittable, nullable, c);
+    match first {
+        Opening::Refused(number) => Step::Refused(number),
+        Opening::Gone(row, next) => push::row(rows, n, row, 0, 0, next),
+        Opening::Here(front, next) => {
+            let i = wire_types::below(nullable, node);
+            wire(table, m, rows, work, modes, i, front, next, n, left)
+        }
+    }
+}
+
+// By the kind of the value's own node. `front` is a label in front of it that has been read.
+fn wire(
+    table: &[u8],
+    m: &[u8],
+    rows: &mut [u64],
+    work: &mut [u32],
+    modes: u64,
+    node: usize,
+    front: Front,
+    c: Cursor,
+    n: usize,
+    left: usize,
+) -> Step
+    requires { ⌜ Ready (now m) (now work) × Inside (now m) c × Sized (now table) × FitsWire (now table) (now work) left node ⌝ }
+    ensures { λ r. ⌜ ReadsWire (now (m .entry)) (now (work .entry)) (now (work .exit)) (now (rows .entry)) (now (rows .exit)) c n r (now (table .entry)) modes node (frontOf front) ⌝ }
+{
+    let kind = nodes::kind_at(table, node);
+    if kind == nodes::BOOLEAN {
+        return read_leaf::boolean(m, rows, front, c, n);
+    }
+    if kind == nodes::RECORD {
+        return record(table, m, rows, work, modes, node, front, c, n, left);
+    }
+    if kind == nodes::ARRAY {
+        return array(table, m, rows, work, modes, node, front, c, n, left);
+    }
+    block(table, m, rows, work, modes, node, front, c, n)
+}
+
+// Unlabelled: a label in front of it is 0.
+fn record(
+    table: &[u8],
+    m: &[u8],
+    rows: &mut [u64],
+    work: &mut [u32],
+    modes: u64,
+    node: usize,
+    front: Front,
+    c: Cursor,
+    n: usize,
+    left: usize,
+) -> Step
+    requires { ⌜ Ready (now m) (now work) × Inside (now m) c × Sized (now table) × FitsWire (now table) (now work) left node × (nodeAt (now table) node .kind ≡ RECORD) ⌝ }
+    ensures { λ r. ⌜ ReadsWire (now (m .entry)) (now (work .entry)) (now (work .exit)) (now (rows .entry)) (now (rows .exit)) c n r (now (table .entry)) modes node (frontOf front) ⌝ }
+{
+    if !front::is_bare(front) {
+        return Step::Refused(24);
+    }
+    let count = nodes::argument_at(table, node);
+    let Put::Next(next) = push::push(rows, n, kind::RECORD, count as u64, 0) else {
+        return Step::Refused(31);
+    };
+    if count == 0 {
+        return Step::Done(c, next);
+    }
+    run(
+        table,
+        m,
+        rows,
+        work,
+        modes,
+        node + 1,
+        false,
+        c,
+        next,
+        left - 1,
+        count,
+    )
+}
+
+// The entries are walked one by one, however many the label says there are.
+fn array(
+    table: &[u8],
+    m: &[u8],
+    rows: &mut [u64],
+    work: &mut [u32],
+    modes: u64,
+    node: usize,
+    front: Front,
+    c: Cursor,
+    n: usize,
+    left: usize,
+) -> Step
+    requires { ⌜ Ready (now m) (now work) × Inside (now m) c × Sized (now table) × FitsWire (now table) (now work) left node × (nodeAt (now table) node .kind ≡ ARRAY) ⌝ }
+    ensures { λ r. ⌜ ReadsWire (now (m .entry)) (now (work .entry)) (now (work .exit)) (now (rows .entry)) (now (rows .exit)) c n r (now (table .entry)) modes node (frontOf front) ⌝ }
+{
+    let Label::Got(l, core) = front::own_label(m, front, c) else {
+        return Step::Refused(23);
+    };
+    let Size::Of(count) = front::size_of(l) else {
+        return Step::Refused(24);
+    };
+    let Put::Next(next) = push::push(rows, n, kind::ARRAY, count as u64, 0) else {
+        return Step::Refused(31);
+    };
+    run(
+        table,
+        m,
+        rows,
+        work,
+        modes,
+        node + 1,
+        true,
+        core,
+        next,
+        left - 1,
+        count,
+    )
+}
+
+// So many values: entries, which all have the type at `node`, or fields, the first of them at `node`. One loop for both,
+// so that a call is made for what a record or an array holds, and none for each value, nor for what holds one value alone.
+fn run(
+    table: &[u8],
+    m: &[u8],
+    rows: &mut [u64],
+    work: &mut [u32],
+    modes: u64,
+    node: usize,
+    repeated: bool,
+    c: Cursor,
+    n: usize,
+    left: usize,
+    count: usize,
+) -> Step
+    requires { ⌜ Ready (now m) (now work) × Inside (now m) c × Sized (now table) × FitRun (now table) (now work) left node repeated count ⌝ }
+    ensures { λ r. ⌜ ReadsRun (now (m .entry)) (now (work .entry)) (now (work .exit)) (now (rows .entry)) (now (rows .exit)) c n r (now (table .entry)) modes node repeated count ⌝ }
+{
+    let mut k = count;
+    let mut at = node;
+    let mut core = c;
+    let mut i = n;
+    while k != 0 {
+        let omittable = wire_types::may_be_absent(table, at, repeated);
+        let end = wire_types::next_node(work, at, repeated);
+        let start = core;
+        let d = descent::descend(table, m, rows, at, omittable, start, i, left);
+        let Descent::To(inner, absent, from, next, path) = d else {
+            return Step::Refused(31);
+        };
+        let r = value(table, m, rows, work, modes, inner, absent, from, next, path);
+        let Step::Done(after, written) = r else {
+            return again(r);
+        };
+        at = end;
+        core = after;
+        i = written;
+        k -= 1;
+    }
+    Step::Done(core, i)
+}
+
+// The whole tree: the value at the table's root, from the first row on.
+pub fn root(
+    table: &[u8],
+    m: &[u8],
+    rows: &mut [u64],
+    work: &mut [u32],
+    modes: u64,
+    c: Cursor,
+) -> Step
+    requires { ⌜ Ready (now m) (now work) × Inside (now m) c × Sized (now table) × FitsNode (now table) (now work) 32 0 ⌝ }
+    ensures { λ r. ⌜ ReadsValue (now (m .entry)) (now (work .entry)) (now (work .exit)) (now (rows .entry)) (now (rows .exit)) c 0 r (now (table .entry)) modes 0 false ⌝ }
+{
+    run(table, m, rows, work, modes, 0, true, c, 0, 32, 1)
+}

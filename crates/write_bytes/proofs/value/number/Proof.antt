@@ -1,0 +1,106 @@
+-- `write_bytes::value::number` meets its contract.
+use denote.Ref.{now}
+use native.Mathlib.Omega.{arith}
+use borrow.Author.Needs.{needs}
+use Rattle.format.specs.Label.{label, integer}
+use Rattle.label.specs.Laws.{label-most}
+use Rattle.write_bytes.specs.Does.{puts-done}
+use Rattle.write_bytes.specs.State.{Puts}
+use Rattle.write_bytes.proofs.Facts.{signed-is}
+use Rattle.write_bytes.proofs.Values.{place-found, place-within, value-nowhere, value-full, value-done}
+use Rattle.write_bytes.proofs.value.number.Statement.{statement}
+use Rattle.write_bytes.proofs.value.number.Tie as tie
+
+-- the label that was put, as the integer's
+read-back : (c : tie.After-put-label) →
+    let args = c .before .before .before .before .before .before .before .before .before .before .args in
+    Puts (args .put) (c .before .before .before .before .first .given .0 .0) (label (integer (args .a))) (now (args .out)) (c .put-label .last .0) (c .put-label .result)
+read-back c = rw (signed-is (record { sfits = c .before .integer-of .ok }) (c .before .integer-of .ensures)) at (c .put-label .ensures)
+
+place-requires : tie.Need-place-requires
+place-requires c κs = search needs
+
+enum-known-first : tie.Need-enum-known-first
+enum-known-first c = search needs
+
+enum-told : tie.Need-enum-told
+enum-told c = search needs
+
+same-length : tie.Need-same-length
+same-length c = search needs
+
+returns : tie.Need-returns
+returns c = value-nowhere _ _ _ _ (c .before .before .place .ensures) _ (c .enum-told .given .1)
+
+integer-of-requires : tie.Need-integer-of-requires
+integer-of-requires c κs = search needs
+
+put-label-requires : tie.Need-put-label-requires
+put-label-requires c κs =
+    let place = c .before .before .before .before .before .place in
+    let pre = c .before .before .before .before .before .before .before .before .before .pre in
+    let first = c .before .before .before .first in
+    omega (arith, place-within _ _ _ _ (place .ensures) (pre .1) (first .given .1))
+
+enum-known-step : tie.Need-enum-known-step
+enum-known-step c = search needs
+
+enum-told-2 : tie.Need-enum-told-2
+enum-told-2 c = search needs
+
+same-length-2 : tie.Need-same-length-2
+same-length-2 c = search needs
+
+same-length-3 : tie.Need-same-length-3
+same-length-3 c = search needs
+
+returns-2 : tie.Need-returns-2
+returns-2 c =
+    let place = c .before .before .before .before .before .before .before .before .before .before .place in
+    let first = c .before .before .before .before .before .before .before .before .first in
+    let enum-told2 = c .enum-told2 in
+    value-full _ _ _ _ (place .ensures) _ (first .given .1) (read-back (c .before .before .before .before)) (enum-told2 .given .1)
+
+move-to-requires : tie.Need-move-to-requires
+move-to-requires c κs =
+    let pre = c .before .before .before .before .before .before .before .before .before .before .before .before .before .before .before .before .pre in
+    let place = c .before .before .before .before .before .before .before .before .before .before .before .before .place in
+    let first = c .before .before .before .before .before .before .before .before .before .before .first in
+    let step = c .before .before .step in
+    let args = c .before .before .before .before .before .before .before .before .before .before .before .before .before .before .before .before .args in
+    (pre .0, pre .2, omega (arith, place-within _ _ _ _ (place .ensures) (pre .1) (first .given .1), puts-done (read-back (c .before .before .before .before .before .before)) (step .given .1) .1, label-most (integer (args .a))), place-found _ _ _ _ (place .ensures) (first .given .1))
+
+same-length-4 : tie.Need-same-length-4
+same-length-4 c = search needs
+
+same-length-5 : tie.Need-same-length-5
+same-length-5 c = search needs
+
+returns-3 : tie.Need-returns-3
+returns-3 c =
+    let place = c .before .before .before .before .before .before .before .before .before .before .before .before .before .before .before .place in
+    let first = c .before .before .before .before .before .before .before .before .before .before .before .before .before .first in
+    let step = c .before .before .before .before .before .step in
+    let move-to = c .before .before .move-to in
+    value-done _ _ _ _ (place .ensures) _ (first .given .1) (read-back (c .before .before .before .before .before .before .before .before .before)) (step .given .1) (move-to .ensures .0) (move-to .ensures .1)
+
+pub number-spec : {M : Type 1} → statement M
+number-spec =
+    tie.close
+    (tie.spec
+    place-requires
+    enum-known-first
+    enum-told
+    same-length
+    returns
+    integer-of-requires
+    put-label-requires
+    enum-known-step
+    enum-told-2
+    same-length-2
+    same-length-3
+    returns-2
+    move-to-requires
+    same-length-4
+    same-length-5
+    returns-3)

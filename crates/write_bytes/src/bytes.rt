@@ -1,0 +1,116 @@
+// Bytes put into the lent output, or only counted.
+ghost use mathlib.Core.Path.{_≡_};
+ghost use lib.Dec.{ltb};
+ghost use lib.IntN.{pos};
+ghost use Prim.Native.Nat.{_+_, _<_, _≤_, _^_};
+ghost use lib.ListN.{length};
+ghost use lib.Seq.{sets};
+ghost use Rattle.format.specs.Label.{varint, label};
+ghost use Rattle.format.specs.Row.{bytesAt};
+ghost use Rattle.format.specs.Write.{littleEndianBytes};
+ghost use Rattle.write_bytes.specs.State.{Puts};
+use super::Step;
+
+// A length as a label.
+pub fn count_label(n: usize) -> i64
+    requires { ⌜ n < 2 ^ 63 ⌝ }
+    ensures { λ r. ⌜ r ≡ pos n ⌝ }
+{
+    n as i64
+}
+
+// Copies `size` bytes of the pool from `start` to the output from `at`.
+fn copy(out: &mut [u8], at: usize, pool: &[u8], start: usize, size: usize)
+    requires { ⌜ (at + size ≤ length (now out)) × (start + size ≤ length (now pool)) ⌝ }
+    ensures { λ _. ⌜ now (out .exit) ≡ sets (now (out .entry)) at (bytesAt (now (pool .entry)) (record { start = start; size = size })) ⌝ }
+{
+    let mut i = 0;
+    while i < size {
+        out[at + i] = pool[start + i];
+        i += 1;
+    }
+}
+
+// Writes a word's eight bytes, the lowest first.
+fn write_word(out: &mut [u8], at: usize, word: u64)
+    requires { ⌜ at + 8 ≤ length (now out) ⌝ }
+    ensures { λ _. ⌜ now (out .exit) ≡ sets (now (out .entry)) at (littleEndianBytes 8 word) ⌝ }
+{
+    let mut v = word;
+    let mut i = 0;
+    while i < 8 {
+        out[at + i] = (v % 256) as u8;
+        v /= 256;
+        i += 1;
+    }
+}
+
+// Whether bytes that end there go beyond the output.
+fn is_over(out: &[u8], end: usize) -> bool
+    ensures { λ r. ⌜ r ≡ ltb (length (now (out .entry))) end ⌝ }
+{
+    out.len() < end
+}
+
+// A part of the pool.
+pub fn put_part(
+    out: &mut [u8],
+    put: bool,
+    at: usize,
+    pool: &[u8],
+    start: usize,
+    size: usize,
+) -> Step
+    requires { ⌜ (at < 2 ^ 32) × (start + size ≤ length (now pool)) ⌝ }
+    ensures { λ r. ⌜ Puts put at (bytesAt (now (pool .entry)) (record { start = start; size = size })) (now (out .entry)) (now (out .exit)) r ⌝ }
+{
+    let end = at + size;
+    if !put {
+        return Step::Done(end);
+    }
+    if is_over(out, end) {
+        return Step::Refused(43);
+    }
+    copy(out, at, pool, start, size);
+    Step::Done(end)
+}
+
+// The VARINT z.
+pub fn put_number(out: &mut [u8], put: bool, at: usize, z: u64) -> Step
+    requires { ⌜ at < 2 ^ 32 ⌝ }
+    ensures { λ r. ⌜ Puts put at (varint z) (now (out .entry)) (now (out .exit)) r ⌝ }
+{
+    let end = at + label::varint_size(z);
+    if !put {
+        return Step::Done(end);
+    }
+    if is_over(out, end) {
+        return Step::Refused(43);
+    }
+    label::put_varint(out, at, z);
+    Step::Done(end)
+}
+
+// The eight bytes of a word.
+pub fn put_word(out: &mut [u8], put: bool, at: usize, word: u64) -> Step
+    requires { ⌜ at < 2 ^ 32 ⌝ }
+    ensures { λ r. ⌜ Puts put at (littleEndianBytes 8 word) (now (out .entry)) (now (out .exit)) r ⌝ }
+{
+    let end = at + 8;
+    if !put {
+        return Step::Done(end);
+    }
+    if is_over(out, end) {
+        return Step::Refused(43);
+    }
+    write_word(out, at, word);
+    Step::Done(end)
+}
+
+// The label n, where the core goes on.
+pub fn put_label(out: &mut [u8], put: bool, core: usize, n: i64) -> Step
+    requires { ⌜ core < 2 ^ 32 ⌝ }
+    ensures { λ r. ⌜ Puts put core (label n) (now (out .entry)) (now (out .exit)) r ⌝ }
+{
+    put_number(out, put, core, label::zigzag(n))
+}

@@ -1,0 +1,120 @@
+// One row of the tree that is to be written: judged against the table, and then counted or put into the message.
+ghost use mathlib.Core.Path.{_≡_};
+ghost use Prim.Native.Nat.{_+_, _<_, _≤_, _^_};
+ghost use Rattle.write_row.specs.Rest.{restOf};
+ghost use Rattle.write_row.specs.Opens.{fitTruth, fitRecord};
+ghost use Rattle.write_row.specs.Row.{nextStep, Marks, WritesRow, Opens};
+use row::Front;
+use row::Truth;
+use row::Word;
+use rows::kind;
+use write_bytes::bytes;
+
+pub mod leaf;
+pub mod row;
+
+// The next row and how far the core goes then, or a refusal's number and second number.
+pub enum Step {
+    Done(usize, usize),
+    Refused(u64, u64),
+}
+
+// What a pass does.
+pub struct Pass {
+    // puts bytes into the output, or only counts them
+    pub put: bool,
+    // InlineEverything
+    pub inline: bool,
+    // NoDeduplication is clear
+    pub numbers: bool,
+}
+
+// A value that is not there and has been written so, or that was refused; or the value is here, with a label in front or none.
+pub enum Opening {
+    Gone(Step),
+    Here(bool),
+}
+
+// Row i is done once what it writes is.
+fn next(i: usize, step: write_bytes::Step) -> Step
+    requires { ⌜ i ≤ 8192 ⌝ }
+    ensures { λ r. ⌜ r ≡ nextStep i step ⌝ }
+{
+    match step {
+        write_bytes::Step::Done(core) => Step::Done(i + 1, core),
+        write_bytes::Step::Refused(number) => Step::Refused(number, 0),
+    }
+}
+
+// A row that writes a label alone.
+pub fn mark(out: &mut [u8], put: bool, i: usize, core: usize, l: i64) -> Step
+    requires { ⌜ (i ≤ 8192) × (core < 2 ^ 32) ⌝ }
+    ensures { λ r. ⌜ Marks put (now (out .entry)) (now (out .exit)) i core r l ⌝ }
+{
+    next(i, bytes::put_label(out, put, core, l))
+}
+
+pub fn boolean(rows: &[u64], pool: &[u8], out: &mut [u8], put: bool, i: usize, core: usize) -> Step
+    requires { ⌜ (i ≤ 8192) × (core < 2 ^ 32) ⌝ }
+    ensures { λ r. ⌜ WritesRow put (now (pool .entry)) (now (rows .entry)) (now (out .entry)) (now (out .exit)) i core r (fitTruth (restOf (now (pool .entry)) (now (rows .entry)) i)) ⌝ }
+{
+    let Truth::Is(t) = row::truth_at(rows, pool, i) else {
+        return Step::Refused(42, i as u64);
+    };
+    if t {
+        return mark(out, put, i, core, 1);
+    }
+    mark(out, put, i, core, 0)
+}
+
+// A record's own row.
+pub fn record(
+    rows: &[u64],
+    pool: &[u8],
+    out: &mut [u8],
+    put: bool,
+    labelled: bool,
+    count: usize,
+    i: usize,
+    core: usize,
+) -> Step
+    requires { ⌜ (i ≤ 8192) × (core < 2 ^ 32) ⌝ }
+    ensures { λ r. ⌜ WritesRow put (now (pool .entry)) (now (rows .entry)) (now (out .entry)) (now (out .exit)) i core r (fitRecord count labelled (restOf (now (pool .entry)) (now (rows .entry)) i)) ⌝ }
+{
+    let Word::Is(n) = row::word_at(rows, pool, kind::RECORD, i) else {
+        return Step::Refused(42, i as u64);
+    };
+    if n != count as u64 {
+        return Step::Refused(42, i as u64);
+    }
+    if !labelled {
+        return Step::Done(i + 1, core);
+    }
+    mark(out, put, i, core, 0)
+}
+
+// What stands in front of a value that may be absent or null.
+pub fn open_value(
+    rows: &[u64],
+    pool: &[u8],
+    out: &mut [u8],
+    put: bool,
+    omittable: bool,
+    nullable: bool,
+    i: usize,
+    core: usize,
+) -> Opening
+    requires { ⌜ (i ≤ 8192) × (core < 2 ^ 32) ⌝ }
+    ensures { λ r. ⌜ Opens put omittable nullable (now (pool .entry)) (now (rows .entry)) (now (out .entry)) (now (out .exit)) i core r ⌝ }
+{
+    if !(omittable | nullable) {
+        return Opening::Here(false);
+    }
+    let front = row::front_at(rows, pool, omittable, nullable, i);
+    match front {
+        Front::Absent => Opening::Gone(mark(out, put, i, core, -2)),
+        Front::Null => Opening::Gone(mark(out, put, i, core, -1)),
+        Front::Here => Opening::Here(true),
+        Front::Not => Opening::Gone(Step::Refused(42, i as u64)),
+    }
+}

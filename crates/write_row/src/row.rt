@@ -1,0 +1,87 @@
+// What a row shows, where it is a row of the kind that is wanted.
+ghost use mathlib.Core.Path.{_≡_};
+ghost use mathlib.Core.Bool.{cond};
+ghost use mathlib.Core.Option.{none, some};
+ghost use Prim.Native.Nat.{_≤_};
+ghost use lib.Dec.{eqb};
+ghost use lib.ListN.{length};
+ghost use Rattle.format.specs.Row.{integerRow, look as lookOf};
+ghost use Rattle.write_row.specs.Judged.{valueIn, truthOf, frontOf, word, Small, truth, front};
+use label::words;
+use rows::Seen;
+use rows::kind;
+
+pub enum Word {
+    Is(u64),
+    Not,
+}
+
+pub enum Truth {
+    Is(bool),
+    Not,
+}
+
+// Of a value that may be absent or null: which of them it is, or that it is here.
+pub enum Front {
+    Absent,
+    Null,
+    Here,
+    Not,
+}
+
+// A kind's own word, if it is the kind that is wanted.
+fn word_if(kind: u64, shown: u64, a: u64) -> Word
+    ensures { λ r. ⌜ word r ≡ cond (eqb shown kind) (some a) none ⌝ }
+    ensures { λ r. ⌜ Small r ⌝ }
+{
+    if shown != kind {
+        return Word::Not;
+    }
+    Word::Is(a)
+}
+
+// The word of an integer, a float, a record or an array.
+pub fn word_at(rows: &[u64], pool: &[u8], kind: u64, i: usize) -> Word
+    requires { ⌜ integerRow ≤ kind ⌝ }
+    ensures { λ r. ⌜ word r ≡ valueIn kind (lookOf (now (rows .entry)) (length (now (pool .entry))) i) ⌝ }
+    ensures { λ r. ⌜ Small r ⌝ }
+{
+    let seen = rows::look(rows, pool, i);
+    match seen {
+        Seen::Integer(n) => word_if(kind, kind::INTEGER, words::word_of(n)),
+        Seen::Float(_, bits) => word_if(kind, kind::FLOAT, bits),
+        Seen::Count { kind: shown, count } => word_if(kind, shown, count),
+        _ => Word::Not,
+    }
+}
+
+pub fn truth_at(rows: &[u64], pool: &[u8], i: usize) -> Truth
+    ensures { λ r. ⌜ truth r ≡ truthOf (lookOf (now (rows .entry)) (length (now (pool .entry))) i) ⌝ }
+{
+    let Seen::Truth(t) = rows::look(rows, pool, i) else {
+        return Truth::Not;
+    };
+    Truth::Is(t)
+}
+
+pub fn front_at(rows: &[u64], pool: &[u8], omittable: bool, nullable: bool, i: usize) -> Front
+    ensures { λ r. ⌜ front r ≡ frontOf omittable nullable (lookOf (now (rows .entry)) (length (now (pool .entry))) i) ⌝ }
+{
+    let seen = rows::look(rows, pool, i);
+    match seen {
+        Seen::Absent => {
+            if omittable {
+                return Front::Absent;
+            }
+            Front::Here
+        }
+        Seen::Null => {
+            if nullable {
+                return Front::Null;
+            }
+            Front::Here
+        }
+        Seen::Refused { number: _ } => Front::Not,
+        _ => Front::Here,
+    }
+}
