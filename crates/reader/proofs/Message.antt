@@ -13,7 +13,7 @@ use Rattle.format.specs.Modes.{inlineEverything, readHeader}
 use Rattle.format.specs.Row.{Place, Row, words}
 use Rattle.format.specs.Read.{Reading, inMessage, State, split, noLiterals, walk, isDone, readChecked}
 use Rattle.label.specs.declared.cursor.Cursor.{Cursor}
-use Rattle.read_pieces.specs.declared.Header as pieces
+use Rattle.modes.specs.declared.Header as header
 use Rattle.modes.specs.Header.{headerOf}
 use Rattle.read_pieces.specs.Pieces.{Inside}
 use Rattle.store.specs.Same.{Same}
@@ -89,12 +89,12 @@ module _ (table m w l : List ℕ) (k : Kept table w) where
     unfolding isSized
     sized-is = let p = and-eq-true-iff (leb 1 (length m)) (leb (length m) 65536) .0 (sym e₁ ∙ not-false b q₁) in (leb-true _ _ (p .0), leb-true _ _ (p .1))
 
-    module _ (h : pieces.Header) (e₂ : headerOf h ≡ readHeader (getD m 0 0)) where
-      pub rows-21 : h ≡ pieces.the-variants.Other → answer ≡ refuse 21 0
+    module _ (h : header.Header) (e₂ : headerOf h ≡ readHeader (getD m 0 0)) where
+      pub rows-21 : h ≡ header.the-variants.Other → answer ≡ refuse 21 0
       unfolding readChecked isSized needAt _>>_ _>>=_
       rows-21 q = answer-is ∙ rw (sym e₁ ∙ not-false b q₁, sym e₂ ∙ ap headerOf q) refl
 
-      module _ {modes : ℕ} (q₂ : h ≡ pieces.the-variants.Modes modes) where
+      module _ {modes : ℕ} (q₂ : h ≡ header.the-variants.Modes modes) where
         from-start : answer ≡ (start m modes most >>= (λ s. walk (inMessage m) modes (k .schema .held) (k .schema .root) s >>= finish))
         unfolding readChecked isSized needAt finish _>>_ _>>=_
         from-start = answer-is ∙ rw (sym e₁ ∙ not-false b q₁, sym e₂ ∙ ap headerOf q₂) (start-then modes (λ s. walk (inMessage m) modes (k .schema .held) (k .schema .root) s >>= finish))
