@@ -1,8 +1,8 @@
 /* The night on which a killed job had a green row (docs/INCIDENT.md). The jobs are written as a message and read back
  * with this library; beside each stands what the old reader showed of the same bytes, which gave an empty text no number.
  *
- *     rt staticlib argo
- *     gcc -Iinclude -o incident examples/incident.c target/staticlib/libargo.a
+ *     tools/library
+ *     gcc -Iinclude -o incident examples/incident.c build/libargo.a
  *     ./incident
  */
 #include <inttypes.h>

@@ -1,7 +1,7 @@
 /* Prints the tree of a message: read TABLE MESSAGE
  *
- *     rt staticlib argo
- *     gcc -Iinclude -o read examples/read.c target/staticlib/libargo.a
+ *     tools/library
+ *     gcc -Iinclude -o read examples/read.c build/libargo.a
  *     ./read samples/night.table samples/night.message
  */
 #include <inttypes.h>

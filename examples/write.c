@@ -1,7 +1,7 @@
 /* Writes a small night of jobs as a message: write TABLE >MESSAGE. It is the sample's:
  *
- *     rt staticlib argo
- *     gcc -Iinclude -o write examples/write.c target/staticlib/libargo.a
+ *     tools/library
+ *     gcc -Iinclude -o write examples/write.c build/libargo.a
  *     ./write samples/night.table | cmp - samples/night.message
  */
 #include <inttypes.h>

@@ -1,8 +1,8 @@
 /* Argo: a proved codec for job feeds. It checks a wire-type table, reads a message into rows, writes rows as a message,
  * and looks at one row. For C11, and for C++.
  *
- *     rt staticlib argo
- *     gcc -std=c11 -Iinclude program.c target/staticlib/libargo.a
+ *     tools/library
+ *     gcc -std=c11 -Iinclude program.c build/libargo.a
  *
  * The library is for x86-64 Linux. It is position-independent, so it links into programs and shared libraries alike.
  * Of the C library it wants memset alone.

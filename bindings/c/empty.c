@@ -1,7 +1,7 @@
 /* The header says that the pointer of an empty buffer may be NULL. The proofs are about slices, where there is no such
  * pointer, so this is tried out here: each buffer of each call in turn.
  *
- *     gcc -std=c11 -Iinclude -o empty bindings/c/empty.c target/staticlib/libargo.a
+ *     gcc -std=c11 -Iinclude -o empty bindings/c/empty.c build/libargo.a
  */
 #include <inttypes.h>
 #include <stdio.h>

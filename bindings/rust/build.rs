@@ -1,4 +1,4 @@
-//! Links `libargo.a` from `ARGO_LIB_DIR`, or from where `rt staticlib argo` puts it in this repository.
+//! Links `libargo.a` from `ARGO_LIB_DIR`, or from where `tools/library` puts it in this repository.
 
 use std::env;
 use std::path::{Path, PathBuf};
@@ -10,7 +10,7 @@ fn main() {
     let library = dir.join("libargo.a");
     assert!(
         library.is_file(),
-        "{} is not there: run `rt staticlib argo`, or set ARGO_LIB_DIR to the folder of libargo.a",
+        "{} is not there: run `tools/library`, or set ARGO_LIB_DIR to the folder of libargo.a",
         library.display()
     );
     println!("cargo:rerun-if-changed={}", library.display());
@@ -20,5 +20,5 @@ fn main() {
 
 fn in_repository() -> PathBuf {
     let here = env::var_os("CARGO_MANIFEST_DIR").expect("cargo sets CARGO_MANIFEST_DIR");
-    Path::new(&here).join("../../target/staticlib")
+    Path::new(&here).join("../../build")
 }
