@@ -3,7 +3,7 @@ use mathlib.Core.Path.{_≡_, refl, sym, ap, _∙_, subst}
 use mathlib.Core.Bool.{Bool, true, false}
 use mathlib.Core.List.{List, [], _∷_, _++_}
 use mathlib.Core.Option.{Option, none, some, Option·some-injective}
-use Prim.Native.Nat.{ℕ, _-_, _≤_, _<_, _^_}
+use Prim.Native.Nat.{ℕ, _+_, _-_, _≤_, _<_, _^_}
 use native.Mathlib.Omega.{arith}
 use lib.IntN.{ℤ}
 use lib.ListN.{length}
@@ -16,12 +16,12 @@ use Rattle.read_pieces.specs.declared.Given.the-variants.{Block, Nothing}
 use Rattle.read_pieces.specs.Chain.{waitingOf}
 use Rattle.read_pieces.specs.Pieces.{readingOf, Inside, Blocks, blocksOf, Left, Gave}
 use Rattle.store.specs.Store.{Store, lookup, put, opened, advanced, rested}
-use Rattle.store.specs.Words.{restOf, GoodSlots, Moved}
+use Rattle.store.specs.Words.{restOf, startOf, GoodSlots, Moved, Begun}
 use Rattle.store.specs.Laws.{move-put, lookup-put, lookup-append, lookup-append-other, lookup-change-other}
 use Rattle.store.specs.Same.{Same, same-then}
 use Rattle.store.specs.Keeping.{moved}
 use Rattle.read_literals.specs.Words.{storeOf, Changes}
-use Rattle.read_literals.specs.Laws.{keeping}
+use Rattle.read_literals.specs.Laws.{keeping, begins}
 use Rattle.read_leaf.specs.State.{cursorOf, Ready, stateOf, Took, Takes}
 use Rattle.read_leaf.specs.Takes.{took-along, took-refuses, took-ends, took-is, took-ready, then-takes, then-takes-not}
 use Rattle.read_leaf.specs.Touch.{given, touch, putBlock, touch-has, at-key}
@@ -46,13 +46,24 @@ module _ {w w′ : List ℕ} (k : ℕ) (p : Reading) (q : Cursor) (e : lookup k 
       (λ y. subst (λ x. Inside m (cursorOf x)) (some-is (lookup-put k (storeOf w .slots) (readingOf q) e) (sym (ap (λ l. lookup k l) slots-put) ∙ rw y at h)) i)
       (λ n. g .slots j r (sym (lookup-change-other k j n (λ y. readingOf q) (storeOf w .slots)) ∙ sym (ap (λ l. lookup j l) slots-put) ∙ h))
 
-  ready-moved : (m : List ℕ) → Ready m w → Inside m q → Ready m w′
-  ready-moved m g i = record {
-    small = g .small;
-    good = d .good;
-    blocks = rw (d .store) (g .blocks);
-    slots = slot-moved m g i;
-  }
+  module _ (s : (j : ℕ) → startOf w′ j ≡ startOf w j) (b : p .at ≤ q .at) where
+    start-moved : (m : List ℕ) → Ready m w → (j : ℕ) (r : Reading) → j < 32 → lookup j (storeOf w′ .slots) ≡ some r → startOf w′ j ≤ r .at
+    start-moved m g j r l h = by-eq j k
+        (λ y.
+        let a = some-is (lookup-put k (storeOf w .slots) (readingOf q) e) (sym (ap (λ l. lookup k l) slots-put) ∙ rw y at h) in
+        let f : startOf w j ≤ p .at = g .starts j p l (rw y e) in
+        let z₁ : q .at ≡ r .at = ap (λ (x : Reading). x .at) a in
+        omega (arith, s j))
+        (λ n. rw (s j) (g .starts j r l (sym (lookup-change-other k j n (λ y. readingOf q) (storeOf w .slots)) ∙ sym (ap (λ l. lookup j l) slots-put) ∙ h)))
+
+    ready-moved : (m : List ℕ) → Ready m w → Inside m q → Ready m w′
+    ready-moved m g i = record {
+      small = g .small;
+      good = d .good;
+      blocks = rw (d .store) (g .blocks);
+      slots = slot-moved m g i;
+      starts = start-moved m g;
+    }
 
   state-moved : (m : List ℕ) (most n : ℕ) (c : Cursor) → stateOf m most w′ c n ≡ putBlock (inMessage m) k (readingOf q) (stateOf m most w c n)
   state-moved m most n c =
@@ -76,17 +87,17 @@ module _ {X : Type 0} (m : List ℕ) (k : ℕ) (f : Reading → Answer (X × Rea
     touched : (most n : ℕ) → Took m most w w₁ n (givenOf c r) (touch (inMessage m) k (stateOf m most w c n))
     touched most n = o .takes c i .took most n
 
-    pub block-none : {w₂ : List ℕ} → r ≡ Nothing → Takes m w w₂ c (refuse 29 0) (atKey (inMessage m) false k f)
+    pub block-none : r ≡ Nothing → Takes m w w₁ c (refuse 29 0) (atKey (inMessage m) false k f)
     block-none q = record { took = λ most n. took-along (at-key (inMessage m) k f (stateOf m most w c n)) (then-takes-not _ (touched most n) _ (ap (givenOf c) q)) }
 
-    pub block-not : {w₂ : List ℕ} {p : Cursor} (e : ℕ) → r ≡ Block p → f (readingOf p) ≡ refuse e 0 → Takes m w w₂ c (refuse e 0) (atKey (inMessage m) false k f)
+    pub block-not : {p : Cursor} (e : ℕ) → r ≡ Block p → f (readingOf p) ≡ refuse e 0 → Takes m w w₁ c (refuse e 0) (atKey (inMessage m) false k f)
     unfolding _>>=_
     block-not e q h = record { took = λ most n. took-along (at-key (inMessage m) k f (stateOf m most w c n)) (then-takes _ (touched most n) _ (ap (givenOf c) q) (took-along (rw h) (took-refuses e))) }
 
-    pub block-takes : {w₂ : List ℕ} {p : Cursor} (x : X) (next : Cursor) → r ≡ Block p → f (readingOf p) ≡ ok (x, readingOf next) → next .end ≡ p .end → Inside m next → Moved w₁ w₂ (advanced k (next .at))
+    pub block-takes : {w₂ : List ℕ} {p : Cursor} (x : X) (next : Cursor) → r ≡ Block p → f (readingOf p) ≡ ok (x, readingOf next) → next .end ≡ p .end → p .at ≤ next .at → Inside m next → Moved w₁ w₂ (advanced k (next .at))
         → Takes m w w₂ c (ok (x, c)) (atKey (inMessage m) false k f)
     unfolding _>>=_
-    block-takes {w₂} {p} x next q h z y v = record { took = λ most n. took-along (at-key (inMessage m) k f (stateOf m most w c n)) (then-takes _ (touched most n) _ (ap (givenOf c) q) (rw h (after most n))) }
+    block-takes {w₂} {p} x next q h z b y v = record { took = λ most n. took-along (at-key (inMessage m) k f (stateOf m most w c n)) (then-takes _ (touched most n) _ (ap (givenOf c) q) (rw h (after most n))) }
       where
         after : (most n : ℕ) → Took m most w₁ w₂ n (ok (x, c)) (ok (x, putBlock (inMessage m) k (readingOf next) (stateOf m most w₁ c n)))
         after most n =
@@ -94,7 +105,7 @@ module _ {X : Type 0} (m : List ℕ) (k : ℕ) (f : Reading → Answer (X × Rea
             let g = took-ready _ (touched most n) (ap (givenOf c) q) in
             let d = moved keeping (g .good) v in
             let has : lookup k (storeOf w₁ .slots) ≡ some (readingOf p) = touch-has (inMessage m) k (stateOf m most w c n) (stateOf m most w₁ c n) (readingOf p) t in
-            record { answer = refl; left = record { state = state-moved k (readingOf p) next has z d m most n c; ready = ready-moved k (readingOf p) next has z d m g y; inside = i; same = same-words d } }
+            record { answer = refl; left = record { state = state-moved k (readingOf p) next has z d m most n c; ready = ready-moved k (readingOf p) next has z d (λ j. v .behind (1216 + j) (omega arith)) b m g y; inside = i; same = same-words d } }
 
 -- ---- the block of a key
 
@@ -105,28 +116,37 @@ block-known {m} {w} k p g e = record { takes = λ c i. record { took = λ most n
 
 module _ {m w : List ℕ} (k : ℕ) (e : lookup k (storeOf w .slots) ≡ none) where
   -- it gets none
-  pub block-missing : {w₁ : List ℕ} → [] ≡ waitingOf m (storeOf w .rest .at) (storeOf w .rest .end) → Opened m k w w₁ Nothing
+  pub block-missing : [] ≡ waitingOf m (storeOf w .rest .at) (storeOf w .rest .end) → Opened m k w w Nothing
   unfolding touch given
   block-missing h = record { takes = λ c i. record { took = λ most n. took-along (rw (e, ← h)) (took-refuses 29) }; inside = tt }
 
   -- it gets the next
-  module _ {w₁ w₂ : List ℕ} (p : Cursor) (g : Ready m w) (h : readingOf p ∷ waitingOf m (p .end) (storeOf w .rest .end) ≡ waitingOf m (storeOf w .rest .at) (storeOf w .rest .end))
-      (i : Inside m p) (b : Blocks m (p .end) (storeOf w .rest .end)) (d : Changes w w₁ (opened k (readingOf p))) (d₁ : Changes w₁ w₂ (rested (record { at = p .end; end = storeOf w .rest .end }))) where
-    both : storeOf w₂ ≡ record { slots = storeOf w .slots ++ (k, readingOf p) ∷ []; rest = record { at = p .end; end = storeOf w .rest .end }; literals = storeOf w .literals }
-    both = d₁ .store ∙ rw (d .store)
+  module _ {w₁ w₂ w₃ : List ℕ} (p : Cursor) (g : Ready m w) (h : readingOf p ∷ waitingOf m (p .end) (storeOf w .rest .end) ≡ waitingOf m (storeOf w .rest .at) (storeOf w .rest .end))
+      (i : Inside m p) (b : Blocks m (p .end) (storeOf w .rest .end)) (d : Changes w w₁ (opened k (readingOf p))) (d₁ : Changes w₁ w₂ (rested (record { at = p .end; end = storeOf w .rest .end })))
+      (d₂ : Changes w₂ w₃ (λ s. s)) (s : startOf w₃ k ≡ p .at) (s₁ : (j : ℕ) → (j ≡ k → ⊥) → startOf w₃ j ≡ startOf w j) where
+    both : storeOf w₃ ≡ record { slots = storeOf w .slots ++ (k, readingOf p) ∷ []; rest = record { at = p .end; end = storeOf w .rest .end }; literals = storeOf w .literals }
+    both = d₂ .store ∙ d₁ .store ∙ rw (d .store)
 
-    slot-given : (j : ℕ) (r : Reading) → lookup j (storeOf w₂ .slots) ≡ some r → Inside m (cursorOf r)
+    slot-given : (j : ℕ) (r : Reading) → lookup j (storeOf w₃ .slots) ≡ some r → Inside m (cursorOf r)
     slot-given j r z = by-eq j k
         (λ y. subst (λ x. Inside m (cursorOf x)) (some-is (lookup-append k (storeOf w .slots) (readingOf p) e) (rw (y, both) at z)) i)
         (λ y. g .slots j r (sym (lookup-append-other k j y (storeOf w .slots) (readingOf p)) ∙ rw both at z))
 
-    ready-given : Ready m w₂
-    ready-given = record { small = g .small; good = d₁ .good; blocks = rw both b; slots = slot-given }
+    start-given : (j : ℕ) (r : Reading) → j < 32 → lookup j (storeOf w₃ .slots) ≡ some r → startOf w₃ j ≤ r .at
+    start-given j r l z = by-eq j k
+        (λ y.
+        let a = some-is (lookup-append k (storeOf w .slots) (readingOf p) e) (rw (y, both) at z) in
+        let z₁ : p .at ≡ r .at = ap (λ (x : Reading). x .at) a in
+        rw y (omega (arith, s)))
+        (λ y. rw (s₁ j y) (g .starts j r l (sym (lookup-append-other k j y (storeOf w .slots) (readingOf p)) ∙ rw both at z)))
 
-    pub block-given : Opened m k w w₂ (Block p)
+    ready-given : Ready m w₃
+    ready-given = record { small = g .small; good = d₂ .good; blocks = rw both b; slots = slot-given; starts = start-given }
+
+    pub block-given : Opened m k w w₃ (Block p)
     unfolding touch given
     block-given = record {
-      takes = λ c y. record { took = λ most n. rw (e, ← h) (record { answer = refl; left = record { state = rw both; ready = ready-given; inside = y; same = same-then (same-words d) (same-words d₁) } }) };
+      takes = λ c y. record { took = λ most n. rw (e, ← h) (record { answer = refl; left = record { state = rw both; ready = ready-given; inside = y; same = same-then (same-words d) (same-then (same-words d₁) (same-words d₂)) } }) };
       inside = i;
     }
 
@@ -144,24 +164,34 @@ module _ {m w : List ℕ} {at end : ℕ} (z : _≡_ {A = Reading} (record { at =
   rest-blocks g = subst (λ (r : Reading). Blocks m (r .at) (r .end)) (sym z) (g .blocks)
 
   module _ {r : Given} (k : ℕ) (e : lookup k (storeOf w .slots) ≡ none) (y : Gave m at end r) where
-    pub gave-none : {w₁ : List ℕ} → r ≡ Nothing → Opened m k w w₁ Nothing
+    pub gave-none : r ≡ Nothing → Opened m k w w Nothing
     unfolding storeOf
     gave-none q = block-missing k e (sym (ap (blocksOf m end) q) ∙ y .is ∙ ap (λ (p : Reading). waitingOf m (p .at) (p .end)) z)
 
-    pub gave-first : {p : Cursor} {w₁ w₂ : List ℕ} → r ≡ Block p → Ready m w → Moved w w₁ (opened k (readingOf p)) → Moved w₁ w₂ (rested (record { at = p .end; end = end })) → Opened m k w w₂ (Block p)
+    pub gave-first : {p : Cursor} {w₁ w₂ w₃ : List ℕ} → r ≡ Block p → k < 32 → Ready m w → Moved w w₁ (opened k (readingOf p)) → Moved w₁ w₂ (rested (record { at = p .end; end = restOf w₁ .end })) → Begun w₂ w₃ k (p .at)
+        → Opened m k w w₃ (Block p)
     unfolding storeOf
-    gave-first {p} {w₁} {w₂} q g v v₁ =
+    gave-first {p} {w₁} {w₂} q kh g v v₁ v₂ =
         let d = moved keeping (g .good) v in
         let d₁ = moved keeping (d .good) v₁ in
+        let d₂ = begins kh (d₁ .good) v₂ in
         let x : end ≡ storeOf w .rest .end = ap (λ (a : Reading). a .end) z in
+        let x₁ : restOf w₁ .end ≡ storeOf w .rest .end = ap (λ (s : Store). s .rest .end) (v .store []) in
         let (i, b) = gave-left y q in
         let h : readingOf p ∷ waitingOf m (p .end) (storeOf w .rest .end) ≡ waitingOf m (storeOf w .rest .at) (storeOf w .rest .end) =
         ap (λ (j : ℕ). readingOf p ∷ waitingOf m (p .end) j) (sym x) ∙ sym (ap (blocksOf m end) q) ∙ y .is ∙ ap (λ (a : Reading). waitingOf m (a .at) (a .end)) z in
-        block-given k e p g h i (subst (λ (j : ℕ). Blocks m (p .end) j) x b) d (subst (λ (j : ℕ). Changes w₁ w₂ (rested (record { at = p .end; end = j }))) x d₁)
+        block-given k e p g h i (subst (λ (j : ℕ). Blocks m (p .end) j) x b) d (subst (λ (j : ℕ). Changes w₁ w₂ (rested (record { at = p .end; end = j }))) x₁ d₁) d₂ (v₂ .is)
+        (λ j o. v₂ .others (1216 + j) (λ y. o (omega arith)) ∙ v₁ .behind (1216 + j) (omega arith) ∙ v .behind (1216 + j) (omega arith))
 
 module _ {m w w₁ : List ℕ} {k : ℕ} {r : Given} {p : Cursor} (o : Opened m k w w₁ r) (q : r ≡ Block p) where
   pub opened-inside : Inside m p
   opened-inside = subst (λ (x : Given). GivenIn m x) q (o .inside)
+
+  pub opened-start : (c : Cursor) → Inside m c → k < 32 → startOf w₁ k ≤ p .at
+  opened-start c i l =
+      let t = o .takes c i .took 0 0 in
+      let has : lookup k (storeOf w₁ .slots) ≡ some (readingOf p) = touch-has (inMessage m) k (stateOf m 0 w c 0) (stateOf m 0 w₁ c 0) (readingOf p) (took-is _ t (ap (givenOf c) q)) in
+      took-ready _ t (ap (givenOf c) q) .starts k (readingOf p) l has
 
   pub opened-good : (c : Cursor) → Inside m c → GoodSlots w₁
   opened-good c i = took-ready _ (o .takes c i .took 0 0) (ap (givenOf c) q) .good .slots

@@ -2,7 +2,7 @@
 use native.Mathlib.Omega.{arith}
 use denote.Enum.Declared.{tagOf}
 use types.Run.{OneOf}
-use mathlib.Core.Path.{_≡_, refl, ap}
+use mathlib.Core.Path.{_≡_, refl, ap, _∙_}
 use mathlib.Core.Bool.{Bool, true, false}
 use mathlib.Core.Logic.{inl, inr}
 use mathlib.Core.List.{List, [], _∷_}
@@ -30,7 +30,7 @@ use Rattle.read_leaf.specs.declared.block.Number.the-variants as number
 use Rattle.read_leaf.specs.State.{mostRows, Walks, Does, Took, Takes}
 use Rattle.read_leaf.specs.Does.{along, refuses}
 use Rattle.read_leaf.specs.Takes.{took-ready, took-inside, then-does, then-refuses}
-use Rattle.read_leaf.specs.Meaning.{frontOf, labelOf, partOf, numberOf, heldLeaf, textRow}
+use Rattle.read_leaf.specs.Meaning.{frontOf, labelOf, partOf, numberOf, partRefusal, numberRefusal, heldLeaf, textRow}
 use Rattle.table.proofs.nodes.Leaf.{the-type}
 use Rattle.table.specs.declared.nodes.Leaf as code
 use Rattle.read_leaf.specs.Contracts.{Owns, Bare, PutsRow, PutsPart, Boolean, Unlabelled, textOf}
@@ -41,8 +41,8 @@ module _ {X : Type 0} {m w w₁ l l₁ : List ℕ} {n : ℕ} {x : X} {c : Cursor
   then-row row p v = then-does a t (λ y. oneRow (inMessage m) (row (y .0)) (y .1)) q (p .does m w₁ (row x) v (took-ready a t q) (took-inside a t q))
 
 module _ {n kind : ℕ} {p : Part} {l l₁ : List ℕ} where
-  pub part-not : {e : ℕ} → p ≡ part.Refused e → PutsPart n kind p l l₁ (Refused e)
-  part-not q = record { does = λ m w w′ a t. then-refuses a t _ (ap partOf q) }
+  pub part-not : {e : ℕ} {k : Step} → p ≡ part.Refused e → k ≡ partRefusal p → PutsPart n kind p l l₁ k
+  part-not q h = rw (h ∙ ap partRefusal q) (record { does = λ m w w′ a t. then-refuses a t _ (ap partOf q) })
 
   pub part-row : {start size : ℕ} {c : Cursor} {s : Step} → p ≡ part.At start size c → PutsRow n (kind ∷ start ∷ size ∷ []) c l l₁ s → PutsPart n kind p l l₁ s
   unfolding rowWords
@@ -84,33 +84,33 @@ module _ (v : ℤ) {k : ℤ} (e : k ≡ v) where
 
 -- ---- a value with no label
 
-module _ {m w w₁ l l₁ : List ℕ} {most n : ℕ} {front : Front} {v : Bool} (b : Bare front v) (a : Answer (List (Row Place) × State (inMessage m))) where
-  front-not : v ≡ false → Does m most w w₁ n l l₁ (Refused 24) (noLabel (inMessage m) (frontOf front) >> a)
+module _ {m w l l₁ : List ℕ} {most n : ℕ} {front : Front} {v : Bool} (b : Bare front v) (a : Answer (List (Row Place) × State (inMessage m))) where
+  front-not : v ≡ false → Does m most w w n l l₁ (Refused 24) (noLabel (inMessage m) (frontOf front) >> a)
   unfolding needAt _>>_
   front-not e = rw (b .is m, e) (refuses 24)
 
-  front-then : {s : Step} → v ≡ true → Does m most w w₁ n l l₁ s a → Does m most w w₁ n l l₁ s (noLabel (inMessage m) (frontOf front) >> a)
+  front-then : {w₁ : List ℕ} {s : Step} → v ≡ true → Does m most w w₁ n l l₁ s a → Does m most w w₁ n l l₁ s (noLabel (inMessage m) (frontOf front) >> a)
   unfolding needAt _>>_
   front-then e d = rw (b .is m, e) d
 
 module _ (m : List ℕ) (modes key : ℕ) {front : Front} (w : List ℕ) (c : Cursor) (n : ℕ) {l l₁ : List ℕ} {v : Bool} (b : Bare front v) where
-  pub varint-24 : {w₁ : List ℕ} → v ≡ false → Unlabelled m modes key varint front w w₁ c n l l₁ (Refused 24)
+  pub varint-24 : v ≡ false → Unlabelled m modes key varint front w w c n l l₁ (Refused 24)
   unfolding leaf
   varint-24 e = record { does = λ held. front-not b _ e }
 
-  pub float-24 : {w₁ : List ℕ} → v ≡ false → Unlabelled m modes key float64 front w w₁ c n l l₁ (Refused 24)
+  pub float-24 : v ≡ false → Unlabelled m modes key float64 front w w c n l l₁ (Refused 24)
   unfolding leaf
   float-24 e = record { does = λ held. front-not b _ e }
 
-  pub fixed-24 : {w₁ : List ℕ} (size : ℕ) → v ≡ false → Unlabelled m modes key (fixed size) front w w₁ c n l l₁ (Refused 24)
+  pub fixed-24 : (size : ℕ) → v ≡ false → Unlabelled m modes key (fixed size) front w w c n l l₁ (Refused 24)
   unfolding leaf
   fixed-24 size e = record { does = λ held. front-not b _ e }
 
   module _ (e : v ≡ true) {w₁ : List ℕ} where
     module _ {r : Number} (t : Takes m w w₁ c (numberOf r) (atKey (inMessage m) (inlineEverything modes) key (readNumber (inMessage m)))) where
-      pub varint-not : {x : ℕ} → r ≡ number.Refused x → Unlabelled m modes key varint front w w₁ c n l l₁ (Refused x)
+      pub varint-not : {x : ℕ} {k : Step} → r ≡ number.Refused x → k ≡ numberRefusal r → Unlabelled m modes key varint front w w₁ c n l l₁ k
       unfolding leaf fromKey
-      varint-not q = record { does = λ held. front-then b _ e (then-refuses _ (t .took (mostRows (length l)) n) _ (ap numberOf q)) }
+      varint-not q h = rw (h ∙ ap numberRefusal q) (record { does = λ held. front-then b _ e (then-refuses _ (t .took (mostRows (length l)) n) _ (ap numberOf q)) })
 
       pub varint-row : {x : ℤ} {a : ℕ} {next : Cursor} {s : Step} → r ≡ number.Is x next → a ≡ word x → PutsRow n (integerRow ∷ a ∷ 0 ∷ []) next l l₁ s → Unlabelled m modes key varint front w w₁ c n l l₁ s
       unfolding leaf fromKey rowWords
@@ -122,9 +122,9 @@ module _ (m : List ℕ) (modes key : ℕ) {front : Front} (w : List ℕ) (c : Cu
       fixed-row p = record { does = λ held. front-then b _ e (p .does m w w₁ _ (t .took (mostRows (length l)) n)) }
 
     module _ {r : Part} (t : Takes m w w₁ c (partOf r) (atKey (inMessage m) (inlineEverything modes) key (readBytes (inMessage m) 8))) where
-      pub float-not : {x : ℕ} → r ≡ part.Refused x → Unlabelled m modes key float64 front w w₁ c n l l₁ (Refused x)
+      pub float-not : {x : ℕ} {k : Step} → r ≡ part.Refused x → k ≡ partRefusal r → Unlabelled m modes key float64 front w w₁ c n l l₁ k
       unfolding leaf fromKey
-      float-not q = record { does = λ held. front-then b _ e (then-refuses _ (t .took (mostRows (length l)) n) _ (ap partOf q)) }
+      float-not q h = rw (h ∙ ap partRefusal q) (record { does = λ held. front-then b _ e (then-refuses _ (t .took (mostRows (length l)) n) _ (ap partOf q)) })
 
       pub float-row : {start size a : ℕ} {next : Cursor} {s : Step} → r ≡ part.At start size next → size ≡ 8 → a ≡ littleEndian (take 8 (drop start m)) → PutsRow n (floatRow ∷ a ∷ 0 ∷ []) next l l₁ s → Unlabelled m modes key float64 front w w₁ c n l l₁ s
       unfolding leaf fromKey rowWords

@@ -59,5 +59,8 @@ module _ (m : List ℕ) (c : Cursor) where
     unfolding readBytes needAt _>>_
     bytes-not size h = rw (left-size, lt-leb size (c .end - c .at) h)
 
+    pub number-later : (l : ℤ) (next : Cursor) → labelAt m c ≡ Got l next → c .at ≤ next .at
+    number-later l next e = omega (arith, label-moved m c l next (i .inside) e .at)
+
     pub number-inside : (l : ℤ) (next : Cursor) → labelAt m c ≡ Got l next → Inside m next × (next .end ≡ c .end)
     number-inside l next e = let v = label-moved m c l next (i .inside) e in (record { ordered = omega (arith, v .inside, v .end); inside = omega (arith, i .inside, v .end) }, v .end)

@@ -20,7 +20,7 @@ use Rattle.read_pieces.specs.Pieces.{Inside}
 use Rattle.store.specs.Store.{added}
 use Rattle.store.specs.Words.{allOf}
 use Rattle.store.specs.Laws.{nth-beyond}
-use Rattle.read_literals.specs.Words.{storeOf, Good, Changes}
+use Rattle.read_literals.specs.Words.{storeOf, Good, Changes, Between}
 use Rattle.read_literals.specs.Laws.{total-is}
 use Rattle.table.specs.declared.nodes.Leaf as code
 use Rattle.read_leaf.specs.Meaning.{heldLeaf}
@@ -34,22 +34,22 @@ pub takes-good : {X : Type 0} {m w w₁ : List ℕ} {c c₁ : Cursor} {x : X} {r
 takes-good t q = took-ready _ (t .took 0 0) q .good
 
 -- one literal more changes nothing else
-ready-added : {m w w′ : List ℕ} (key : ℕ) (v : Place) → Ready m w → Changes w w′ (added key v) → Ready m w′
-ready-added key v g d = record { small = g .small; good = d .good; blocks = rw (d .store) (g .blocks); slots = λ j p e. g .slots j p (rw (d .store) at e) }
+ready-added : {m w w′ : List ℕ} (key : ℕ) (v : Place) → Ready m w → Changes w w′ (added key v) → Between w w′ → Ready m w′
+ready-added key v g d b = record { starts = λ j p l e. rw (b .at (1216 + j) (omega arith) (omega arith)) (g .starts j p l (rw (d .store) at e)); small = g .small; good = d .good; blocks = rw (d .store) (g .blocks); slots = λ j p e. g .slots j p (rw (d .store) at e) }
 
 module _ (m : List ℕ) (modes key : ℕ) (h : Held) (size : ℕ) (c : Cursor) {w w₁ : List ℕ} {r : Answer (Place × Cursor)}
     (t : Takes m w w₁ c r (atKey (inMessage m) (inlineEverything modes) key (readBytes (inMessage m) size))) where
   abbrev read : State (inMessage m) → Answer (Place × State (inMessage m))
   read = readText (inMessage m) modes (λ i. h) key (pos size)
 
-  pub literal-not : {w₂ : List ℕ} {e : ℕ} → r ≡ refuse e 0 → Takes m w w₂ c r read
+  pub literal-not : {e : ℕ} → r ≡ refuse e 0 → Takes m w w₁ c r read
   unfolding readText fromKey
   literal-not q = rw q (record { took = λ most n. then-takes-not _ (t .took most n) _ q })
 
   module _ {v : Place} {c₁ : Cursor} (q : r ≡ ok (v, c₁)) where
     -- right and numbered are what the code says of the bytes and of the key
     module _ {right : Bool} (y : right ≡ isRight (h .leaf) (bytesAt m v)) where
-      pub literal-28 : {w₂ : List ℕ} → right ≡ false → Takes m w w₂ c (refuse 28 0) read
+      pub literal-28 : right ≡ false → Takes m w w₁ c (refuse 28 0) read
       unfolding readText fromKey needAt _>>_
       literal-28 e = record { took = λ most n. then-takes _ (t .took most n) _ q (rw (← y, e) (took-refuses 28)) }
 
@@ -63,16 +63,16 @@ module _ (m : List ℕ) (modes key : ℕ) (h : Held) (size : ℕ) (c : Cursor) {
         counted : allOf w₁ ≡ total (storeOf w₁ .literals)
         counted = total-is w₁ (takes-good t q .literals)
 
-        pub literal-32 : {w₂ : List ℕ} → 4096 ≤ allOf w₁ → Takes m w w₂ c (refuse 32 0) read
+        pub literal-32 : 4096 ≤ allOf w₁ → Takes m w w₁ c (refuse 32 0) read
         unfolding readText fromKey needAt _>>_ addLiteral _>>=_
         literal-32 b = record { took = λ most n. then-takes _ (t .took most n) _ q (rw (← y, e, ← y₁, e₁, le-ltb _ _ (rw counted at b)) (took-refuses 32)) }
 
-        pub literal-noted : {w₂ : List ℕ} → allOf w₁ < 4096 → Changes w₁ w₂ (added key v) → Takes m w w₂ c (ok (v, c₁)) read
+        pub literal-noted : {w₂ : List ℕ} → allOf w₁ < 4096 → Changes w₁ w₂ (added key v) → Between w₁ w₂ → Takes m w w₂ c (ok (v, c₁)) read
         unfolding readText fromKey needAt _>>_ addLiteral _>>=_
-        literal-noted b d = record {
+        literal-noted b d y₂ = record {
           took = λ most n. then-takes _ (t .took most n) _ q (rw (← y, e, ← y₁, e₁, lt-ltb _ _ (rw counted at b)) (record {
             answer = refl;
-            left = record { state = rw (d .store); ready = ready-added key v (took-ready _ (t .took most n) q) d; inside = took-inside _ (t .took most n) q; same = same-words d };
+            left = record { state = rw (d .store); ready = ready-added key v (took-ready _ (t .took most n) q) d y₂; inside = took-inside _ (t .took most n) q; same = same-words d };
           }));
         }
 
@@ -104,7 +104,7 @@ module _ (modes key : ℕ) (h : Held) (k : ℕ) (w : List ℕ) where
 
 -- the label in front, and then the text
 module _ (m : List ℕ) (modes key : ℕ) (h : Held) (l : Option ℤ) (c : Cursor) {w : List ℕ} {r : Answer (ℤ × Cursor)} (t : Takes m w w c r (ownLabel (inMessage m) l)) where
-  pub text-not : {w₂ : List ℕ} {e : ℕ} → r ≡ refuse e 0 → Takes m w w₂ c (refuse e 0) (textOf m modes h key l)
+  pub text-not : {e : ℕ} → r ≡ refuse e 0 → Takes m w w c (refuse e 0) (textOf m modes h key l)
   text-not q = record { took = λ most n. then-takes-not _ (t .took most n) _ q }
 
   pub text-is : {w₂ : List ℕ} {c₁ : Cursor} {x : Answer (Place × Cursor)} {k : ℤ} (j : ℤ) → r ≡ ok (k, c₁) → j ≡ k → Takes m w w₂ c₁ x (readText (inMessage m) modes (λ i. h) key j) → Takes m w w₂ c x (textOf m modes h key l)

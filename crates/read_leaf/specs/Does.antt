@@ -50,8 +50,12 @@ rows-append l n rs ss =
 pub along : {m w w′ l l′ : List ℕ} {most n : ℕ} {r : Step} {a a′ : Answer (List (Row Place) × State (inMessage m))} → a ≡ a′ → Does m most w w′ n l l′ r a′ → Does m most w w′ n l l′ r a
 along {m} {w} {w′} {l} {l′} {most} {n} {r} e d = subst (λ x. Does m most w w′ n l l′ r x) (sym e) d
 
-pub refuses : {m w w′ l l′ : List ℕ} {most n : ℕ} (e : ℕ) → Does m most w w′ n l l′ (Refused e) (refuse e 0)
-refuses e = record { answer = refl; left = refl }
+pub refuses-after : {m w w′ l l′ : List ℕ} {most n : ℕ} (e : ℕ) → Same w w′ → Does m most w w′ n l l′ (Refused e) (refuse e 0)
+refuses-after e k = record { answer = refl; left = (refl, k) }
+
+-- at once, with the work as it was
+pub refuses : {m w l l′ : List ℕ} {most n : ℕ} (e : ℕ) → Does m most w w n l l′ (Refused e) (refuse e 0)
+refuses {w = w} e = refuses-after e (same-self w)
 
 pub holds-then : {m w w₁ w₂ : List ℕ} {most n : ℕ} {s : State (inMessage m)} → Same w w₁ → Holds m most w₁ w₂ n s → Holds m most w w₂ n s
 holds-then a h = record { state = h .state; ready = h .ready; inside = h .inside; same = same-then a (h .same) }
@@ -70,7 +74,7 @@ after-does {m} {w} {w₁} {w₂} {l} {l₁} {l₂} {most} {n} rs (ok y) e b k d 
       answer = d .answer ∙ ap (λ i. Done (cursorOf (y .1 .core)) i) s;
       left = (d .left .0 ∙ rw (e, rows-append l n rs (y .0)), holds-then k (subst (λ i. Holds m most w₁ w₂ i (y .1)) s (d .left .1)), λ h. omega (arith, d .left .2 (b h)));
     }
-after-does rs (refuse e i) q b k d = record { answer = d .answer; left = d .left }
+after-does rs (refuse e i) q b k d = record { answer = d .answer; left = (d .left .0, same-then k (d .left .1)) }
 
 -- one step after another
 pub seqs : {m w w₁ w₂ l l₁ l₂ : List ℕ} {most n n₁ : ℕ} {c : Cursor} {r r₁ : Step} (a : Answer (List (Row Place) × State (inMessage m))) (g : State (inMessage m) → Answer (List (Row Place) × State (inMessage m)))
@@ -154,8 +158,8 @@ module _ {m w w₂ l l₁ l₂ ws : List ℕ} {most n n₁ : ℕ} {c : Cursor} {
       let d₁ : Does m most w w₂ (n + 1) l₁ l₂ r (g (stateOf m most w c (n + 1))) = subst (λ (i : ℕ). Does m most w w₂ i l₁ l₂ r (g (stateOf m most w c i))) e d in
       along (ap (λ a. a >>= (λ s. g s >>= (λ y. ok (x ∷ y .0, y .1)))) (taken m w most n c b)) (after-does (x ∷ []) (g (stateOf m most w c (n + 1))) (stored l l₁ ws most n x s v b) (λ h. omega arith) (same-self w) d₁)
 
-pub push-not : {m w w₁ l l₁ : List ℕ} {most n : ℕ} {q : Put} (c : Cursor) (f : State (inMessage m) → Answer (List (Row Place) × State (inMessage m))) → q ≡ putOf most n → q ≡ Full
-    → Does m most w w₁ n l l₁ (Refused 31) (takeRow (inMessage m) (stateOf m most w c n) >>= f)
+pub push-not : {m w l l₁ : List ℕ} {most n : ℕ} {q : Put} (c : Cursor) (f : State (inMessage m) → Answer (List (Row Place) × State (inMessage m))) → q ≡ putOf most n → q ≡ Full
+    → Does m most w w n l l₁ (Refused 31) (takeRow (inMessage m) (stateOf m most w c n) >>= f)
 unfolding _>>=_
 push-not {m} {w} {most = most} {n} c f h z = along (ap (λ a. a >>= f) (taken-not m w most n c (full h z))) (refuses 31)
 

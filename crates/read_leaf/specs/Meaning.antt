@@ -12,6 +12,8 @@ use Rattle.format.specs.Table.{Leaf, string, varint, float64, bytes, fixed, Hel
 use Rattle.label.specs.declared.cursor.Cursor.{Cursor}
 use Rattle.label.specs.declared.cursor.Label as label
 use Rattle.table.specs.declared.nodes.Leaf as code
+use Rattle.read_leaf.specs.declared.Step.{Step}
+use Rattle.read_leaf.specs.declared.Step.the-variants.{Done, Refused}
 use Rattle.read_leaf.specs.declared.front.Front.{Front}
 use Rattle.read_leaf.specs.declared.front.Front.the-variants.{Open, Label}
 use Rattle.read_leaf.specs.declared.front.Size.{Size}
@@ -40,6 +42,15 @@ partOf (part.Refused e) = refuse e 0
 abbrev pub numberOf : Number → Answer (ℤ × Cursor)
 numberOf (number.Is n c) = ok (n, c)
 numberOf (number.Refused e) = refuse e 0
+
+-- a refusal, for the walk
+abbrev pub partRefusal : Part → Step
+partRefusal (part.At start size c) = Done c 0
+partRefusal (part.Refused e) = Refused e
+
+abbrev pub numberRefusal : Number → Step
+numberRefusal (number.Is n c) = Done c 0
+numberRefusal (number.Refused e) = Refused e
 
 -- a part has that size, and is inside the message
 abbrev pub PartIn : List ℕ → ℕ → Part → Type 0

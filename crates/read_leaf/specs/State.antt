@@ -2,7 +2,7 @@
 use mathlib.Core.Path.{_≡_}
 use mathlib.Core.List.{List}
 use mathlib.Core.Option.{some}
-use Prim.Native.Nat.{ℕ, _+_, _-_, _*_, _/_, _≤_, min}
+use Prim.Native.Nat.{ℕ, _+_, _-_, _*_, _/_, _<_, _≤_, min}
 use lib.ListN.{length}
 use lib.Seq.{sets}
 use Rattle.format.specs.Answer.{Answer, ok, refuse}
@@ -12,6 +12,7 @@ use Rattle.label.specs.declared.cursor.Cursor.{Cursor}
 use Rattle.read_pieces.specs.Chain.{waitingOf}
 use Rattle.read_pieces.specs.Pieces.{readingOf, Inside, Blocks}
 use Rattle.store.specs.Store.{lookup}
+use Rattle.store.specs.Words.{startOf}
 use Rattle.store.specs.Same.{Same}
 use Rattle.read_literals.specs.Words.{storeOf, Good}
 use Rattle.read_leaf.specs.declared.Step.{Step}
@@ -30,6 +31,7 @@ pub record Ready (m w : List ℕ) : Type 0 where
   pub good : Good w
   pub blocks : Blocks m (storeOf w .rest .at) (storeOf w .rest .end)
   pub slots : (k : ℕ) (p : Reading) → lookup k (storeOf w .slots) ≡ some p → Inside m (cursorOf p)
+  pub starts : (k : ℕ) (p : Reading) → k < 32 → lookup k (storeOf w .slots) ≡ some p → startOf w k ≤ p .at  -- where the key's piece begins
 
 -- that state, with the core at c and n rows written of so many that there may be
 abbrev pub stateOf : (m : List ℕ) → ℕ → List ℕ → Cursor → ℕ → State (inMessage m)
@@ -56,9 +58,9 @@ stepOf n (refuse e i) = Refused e
 -- The rows stand in the buffer from row n on, no more than there may be, and the work holds the state. No refusal of the walk has a second number of its own.
 abbrev pub Left : (m : List ℕ) → ℕ → List ℕ → List ℕ → ℕ → List ℕ → List ℕ → Answer (List (Row Place) × State (inMessage m)) → Type 0
 Left m most w w′ n before now (ok r) = (now ≡ sets before (rowWidth * n) (words (r .0))) × Holds m most w w′ (n + length (r .0)) (r .1) × (n ≤ most → n + length (r .0) ≤ most)
-Left m most w w′ n before now (refuse e i) = i ≡ 0
+Left m most w w′ n before now (refuse e i) = (i ≡ 0) × Same w w′
 
--- A step that began with the work w and n rows, and ended with the work w′. Nothing is said of the buffers after a refusal.
+-- A step that began with the work w and n rows, and ended with the work w′. After a refusal nothing is said of the rows, and of the work that the caller's words are as they were.
 pub record Does (m : List ℕ) (most : ℕ) (w w′ : List ℕ) (n : ℕ) (before now : List ℕ) (r : Step) (a : Answer (List (Row Place) × State (inMessage m))) : Type 0 where
   pub answer : r ≡ stepOf n a
   pub left : Left m most w w′ n before now a
@@ -74,7 +76,7 @@ readOf (refuse e i) = refuse e i
 
 abbrev pub Kept : {X : Type 0} → (m : List ℕ) → ℕ → List ℕ → List ℕ → ℕ → Answer (X × State (inMessage m)) → Type 0
 Kept m most w w′ n (ok r) = Holds m most w w′ n (r .1)
-Kept m most w w′ n (refuse e i) = i ≡ 0
+Kept m most w w′ n (refuse e i) = (i ≡ 0) × Same w w′
 
 pub record Took {X : Type 0} (m : List ℕ) (most : ℕ) (w w′ : List ℕ) (n : ℕ) (r : Answer (X × Cursor)) (a : Answer (X × State (inMessage m))) : Type 0 where
   pub answer : r ≡ readOf a

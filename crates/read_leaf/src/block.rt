@@ -2,7 +2,7 @@
 ghost use mathlib.Core.Path.{_≡_};
 ghost use mathlib.Core.Bool.{false};
 ghost use mathlib.Core.Option.{none};
-ghost use Prim.Native.Nat.{_+_, _≤_, _<_, _^_};
+ghost use Prim.Native.Nat.{_+_, _-_, _≤_, _<_, _^_};
 ghost use lib.ListN.{length, take, drop};
 ghost use Rattle.format.specs.Modes.{inlineEverything};
 ghost use Rattle.format.specs.Read.{inMessage, readBytes, readNumber, atKey, littleEndian};
@@ -11,8 +11,9 @@ ghost use Rattle.read_pieces.specs.Pieces.{Inside};
 ghost use Rattle.store.specs.Store.{lookup};
 ghost use Rattle.read_literals.specs.Words.{storeOf};
 ghost use Rattle.read_leaf.specs.State.{Ready, Takes};
-ghost use Rattle.read_leaf.specs.Meaning.{partOf, numberOf, PartIn};
+ghost use Rattle.read_leaf.specs.Meaning.{partOf, numberOf, partRefusal, numberRefusal, PartIn};
 ghost use Rattle.read_leaf.specs.Contracts.{Opened};
+use super::Step;
 use label::Cursor;
 use label::Label;
 use read_pieces::Given;
@@ -29,6 +30,30 @@ pub enum Number {
     Refused(u64),
 }
 
+impl Part {
+    // The refusal, for the walk; where there is none, how far the core has been read.
+    pub fn refusal(self) -> Step
+        ensures { λ r. ⌜ r ≡ partRefusal self ⌝ }
+    {
+        match self {
+            Part::Refused(number) => Step::Refused(number),
+            Part::At(_, _, c) => Step::Done(c, 0),
+        }
+    }
+}
+
+impl Number {
+    // The same.
+    pub fn refusal(self) -> Step
+        ensures { λ r. ⌜ r ≡ numberRefusal self ⌝ }
+    {
+        match self {
+            Number::Refused(number) => Step::Refused(number),
+            Number::Is(_, c) => Step::Done(c, 0),
+        }
+    }
+}
+
 fn is_inline(modes: u64) -> bool
     ensures { λ r. ⌜ r ≡ inlineEverything modes ⌝ }
 {
@@ -41,13 +66,16 @@ fn first_block(m: &[u8], work: &mut [u32], key: usize) -> Given
     ensures { λ r. ⌜ Opened (now (m .entry)) key (now (work .entry)) (now (work .exit)) r ⌝ }
 {
     let rest = store::rest(work);
-    let end = rest.end;
-    let waiting = Cursor { at: rest.at, end };
+    let waiting = Cursor {
+        at: rest.at,
+        end: rest.end,
+    };
     let Given::Block(block) = read_pieces::next_block(m, waiting) else {
         return Given::Nothing;
     };
     store::touch(work, key, block.at, block.end);
-    store::set_rest(work, block.end, end);
+    store::move_rest(work, block.end);
+    store::set_start(work, key, block.at);
     Given::Block(block)
 }
 
@@ -62,6 +90,15 @@ fn block_of(m: &[u8], work: &mut [u32], key: usize) -> Given
     Given::Block(Cursor { at, end })
 }
 
+// How many bytes are left of the piece that begins at `start`, where it has been read up to `place`.
+fn left_in(m: &[u8], start: usize, place: Cursor) -> usize
+    requires { ⌜ (start ≤ place .at) × Inside (now m) place ⌝ }
+    ensures { λ r. ⌜ r ≡ place .end - place .at ⌝ }
+{
+    let end = place.end;
+    read_piece::left_at(&m[start..end], place.at - start)
+}
+
 fn block_bytes(m: &[u8], work: &mut [u32], key: usize, size: usize, c: Cursor) -> Part
     requires { ⌜ Ready (now m) (now work) × (key < 32) × Inside (now m) c ⌝ }
     ensures { λ r. ⌜ Takes (now (m .entry)) (now (work .entry)) (now (work .exit)) c (partOf r) (atKey (inMessage (now (m .entry))) false key (readBytes (inMessage (now (m .entry))) size)) ⌝ }
@@ -70,10 +107,10 @@ fn block_bytes(m: &[u8], work: &mut [u32], key: usize, size: usize, c: Cursor) -
     let Given::Block(block) = block_of(m, work, key) else {
         return Part::Refused(29);
     };
-    let start = block.at;
-    if block.end - start < size {
+    if left_in(m, store::start(work, key), block) < size {
         return Part::Refused(27);
     }
+    let start = block.at;
     store::advance(work, key, start + size);
     Part::At(start, size, c)
 }
@@ -96,7 +133,7 @@ pub fn take_bytes(
     }
     let start = c.at;
     let end = c.end;
-    if end - start < size {
+    if left_in(m, 0, c) < size {
         return Part::Refused(27);
     }
     let next = Cursor {
@@ -106,8 +143,8 @@ pub fn take_bytes(
     Part::At(start, size, next)
 }
 
-// The label where a block, or the core, has been read to. The piece's slice ends where the piece ends, and begins with
-// the message, from where places are counted.
+// The label where a block, or the core, has been read to. Its slice ends where the piece ends, and begins with the message:
+// that spares the two places' being counted from elsewhere, which would make reading numbers slower by a tenth.
 fn label_in(m: &[u8], place: Cursor) -> Label
     requires { ⌜ place .end ≤ length (now m) ⌝ }
     ensures { λ r. ⌜ r ≡ labelAt (now (m .entry)) place ⌝ }

@@ -46,10 +46,10 @@ pub fn boolean(m: &[u8], rows: &mut [u64], front: Front, c: Cursor, n: usize) ->
 fn put_part(rows: &mut [u64], n: usize, kind: u64, part: Part) -> Step
     ensures { λ r. ⌜ PutsPart n kind part (now (rows .entry)) (now (rows .exit)) r ⌝ }
 {
-    match part {
-        Part::Refused(number) => Step::Refused(number),
-        Part::At(start, size, c) => push::row(rows, n, kind, start as u64, size as u64, c),
-    }
+    let Part::At(start, size, c) = part else {
+        return part.refusal();
+    };
+    push::row(rows, n, kind, start as u64, size as u64, c)
 }
 
 fn varint(
@@ -69,10 +69,10 @@ fn varint(
         return Step::Refused(24);
     }
     let r = block::take_number(m, work, modes, key, c);
-    match r {
-        Number::Refused(number) => Step::Refused(number),
-        Number::Is(v, next) => push::row(rows, n, kind::INTEGER, label::word_of(v), 0, next),
-    }
+    let Number::Is(v, next) = r else {
+        return r.refusal();
+    };
+    push::row(rows, n, kind::INTEGER, label::word_of(v), 0, next)
 }
 
 fn float64(
@@ -92,12 +92,10 @@ fn float64(
         return Step::Refused(24);
     }
     let r = block::take_bytes(m, work, modes, key, 8, c);
-    match r {
-        Part::Refused(number) => Step::Refused(number),
-        Part::At(start, _, next) => {
-            push::row(rows, n, kind::FLOAT, block::word_at(m, start), 0, next)
-        }
-    }
+    let Part::At(start, _, next) = r else {
+        return r.refusal();
+    };
+    push::row(rows, n, kind::FLOAT, block::word_at(m, start), 0, next)
 }
 
 fn fixed(

@@ -103,6 +103,7 @@ module _ (w : List ℕ) (key n p q all s l : ℕ) (whole : 16384 ≤ length w) (
       record {
         size = simp length-set;
         below = λ i h. same i (omega arith);
+        between = λ i h b. same i (omega arith);
         next = skip w₅ 1156 _ 1155 (omega arith) ∙ hit w₄ 1155 q b₄;
         all = hit w₅ 1156 (all + 1) b₅ ∙ ap (λ (m : ℕ). m + 1) ha;
         counted = let a : ℕ = 1184 + key in skip w₅ 1156 _ a (omega arith) ∙ skip w₄ 1155 _ a (omega arith) ∙ hit w₃ a (n + 1) b₃;

@@ -63,10 +63,15 @@ Changes w w′ f = keeping.Changes GoodLiterals storeOf w w′ f
 unfoldable pub nextPage : List ℕ → ℕ → ℕ
 nextPage w k = cond (eqb (countOf w k % 64) 0) (taken w) (pageOf w k (countOf w k / 64))
 
+-- The words between the last count and the pages, where the reader keeps where each key's piece begins, stay as they were.
+pub record Between (w w′ : List ℕ) : Type 0 where
+  pub at : (i : ℕ) → 1216 ≤ i → i < 2048 → word w′ i ≡ word w i
+
 -- The words after a literal n of a key was written on page p, with q pages taken then.
 pub record Written (w w′ : List ℕ) (key n p q : ℕ) (x : Place) : Type 0 where
   pub size : length w′ ≡ length w
   pub below : (i : ℕ) → i < 1155 → word w′ i ≡ word w i
+  pub between : (i : ℕ) → 1216 ≤ i → i < 2048 → word w′ i ≡ word w i
   pub next : taken w′ ≡ q
   pub all : allOf w′ ≡ allOf w + 1
   pub counted : countOf w′ key ≡ n + 1

@@ -8,7 +8,7 @@ ghost use lib.ListN.{length, getD};
 ghost use Rattle.format.specs.Read.{nth, total as totalOf};
 ghost use Rattle.store.specs.Store.{added};
 ghost use Rattle.store.specs.Words.{allOf};
-ghost use Rattle.read_literals.specs.Words.{storeOf, Good, Changes, pages as pagesOf, cellOf, nextPage, Written};
+ghost use Rattle.read_literals.specs.Words.{storeOf, Good, Changes, pages as pagesOf, cellOf, nextPage, Written, Between};
 ghost use Rattle.read_literals.specs.Meaning.{place};
 
 // How many pages are taken.
@@ -108,6 +108,7 @@ fn write(
 pub fn add(work: &mut [u32], key: usize, start: usize, size: usize)
     requires { ⌜ (Good (now work)) × (key < 32) × (totalOf (storeOf (now work) .literals) < 4096) × (start < 2 ^ 32) × (size < 2 ^ 32) ⌝ }
     ensures { λ _. ⌜ Changes (now (work .entry)) (now (work .exit)) (added key (record { start = start; size = size })) ⌝ }
+    ensures { λ _. ⌜ Between (now (work .entry)) (now (work .exit)) ⌝ }
 {
     let n = store::count(work, key);
     let page = next_page(work, key);

@@ -12,14 +12,16 @@ use Rattle.format.specs.Read.{nullLabel, absentLabel, errorLabel, isLabel, isNu
 use Rattle.label.specs.declared.cursor.Cursor.{Cursor}
 use Rattle.label.specs.declared.cursor.Label as label
 use Rattle.read_pieces.specs.Pieces.{Inside}
-use Rattle.read_leaf.specs.declared.front.Front.the-variants.{Open, Label}
+use Rattle.read_leaf.specs.declared.front.Front.the-variants.{Open}
 use Rattle.read_leaf.specs.Meaning.{labelOf}
 use Rattle.read_leaf.specs.Takes.{took-ends, took-refuses, took-ready, took-inside, then-takes, then-takes-not}
 use Rattle.read_leaf.specs.Contracts.{Owns}
 use Rattle.read_walk.specs.declared.opening.Opening.{Opening}
-use Rattle.read_walk.specs.declared.opening.Opening.the-variants.{Gone, Here, Refused}
+use Rattle.read_walk.specs.declared.opening.Opening.the-variants.{Read, Refused}
+use Rattle.read_walk.specs.declared.opening.Seen.{Seen}
+use Rattle.read_walk.specs.declared.opening.Seen.the-variants.{Here}
 use Rattle.read_walk.specs.declared.opening.Meant as meant
-use Rattle.read_walk.specs.Opening.{Opened, gone, here, nullOr, absentOr, labelled, opened, meantOf, openedOf, Opens}
+use Rattle.read_walk.specs.Opening.{Opened, gone, here, nullOr, absentOr, labelled, opened, seenOf, meantOf, openedOf, Opens}
 
 pub errors-on : (modes : ℕ) → modes / 4 % 2 ≡ 1 → outOfBandFieldErrors modes ≡ true
 unfolding has
@@ -53,29 +55,29 @@ module _ (modes : ℕ) (l l′ : ℤ) (e : l′ ≡ l) where
       unfolding nullOr isNull needAt _>>_ _>>=_
       null-null q h = rw (told errorLabel x q, told nullLabel y h)
 
-      pub null-here : a ≡ false → b ≡ false → ok (here (some l)) ≡ nullOr modes true l
+      pub null-here : a ≡ false → b ≡ false → ok (here (some l′)) ≡ nullOr modes true l
       unfolding nullOr isNull needAt _>>_ _>>=_
-      null-here q h = rw (told errorLabel x q, told nullLabel y h)
+      null-here q h = rw (told errorLabel x q, told nullLabel y h, e)
 
-  pub null-some : (z : Bool) (r : meant.Meant) → z ≡ true → meantOf l′ r ≡ nullOr modes true l′ → meantOf l r ≡ nullOr modes z l
+  pub null-some : (z : Bool) (r : meant.Meant) → z ≡ true → meantOf r ≡ nullOr modes true l′ → meantOf r ≡ nullOr modes z l
   null-some z r q h = rw (q, ← e) h
+
+  pub null-none : (z : Bool) → z ≡ false → ok (here (some l′)) ≡ nullOr modes z l
+  unfolding nullOr
+  null-none z q = rw (q, e)
 
   module _ (o z : Bool) where
     pub absent-gone : {t : Bool} → t ≡ isLabel l′ absentLabel → o ≡ true → t ≡ true → ok (gone 1) ≡ absentOr modes o z l
     unfolding absentOr
     absent-gone {t} x q h = rw (q, told absentLabel x h)
 
-    pub absent-not : {t : Bool} (r : meant.Meant) → t ≡ isLabel l′ absentLabel → o ≡ true → t ≡ false → meantOf l′ r ≡ nullOr modes z l′ → meantOf l r ≡ absentOr modes o z l
+    pub absent-not : {t : Bool} (r : meant.Meant) → t ≡ isLabel l′ absentLabel → o ≡ true → t ≡ false → meantOf r ≡ nullOr modes z l′ → meantOf r ≡ absentOr modes o z l
     unfolding absentOr
     absent-not {t} r x q h d = rw (q, told absentLabel x h, ← e) d
 
-    pub absent-none : (r : meant.Meant) → o ≡ false → meantOf l′ r ≡ nullOr modes z l′ → meantOf l r ≡ absentOr modes o z l
+    pub absent-none : (r : meant.Meant) → o ≡ false → meantOf r ≡ nullOr modes z l′ → meantOf r ≡ absentOr modes o z l
     unfolding absentOr
     absent-none r q d = rw (q, ← e) d
-
-pub null-none : (modes : ℕ) (l : ℤ) (z : Bool) → z ≡ false → ok (here (some l)) ≡ nullOr modes z l
-unfolding nullOr
-null-none modes l z e = rw e
 
 module _ (m : List ℕ) (modes : ℕ) (o z : Bool) (c : Cursor) where
   module _ (r : label.Label) (x : Owns m Open c r) where
@@ -83,34 +85,28 @@ module _ (m : List ℕ) (modes : ℕ) (o z : Bool) (c : Cursor) where
     unfolding labelled ownLabel
     labelled-bad q = record { takes = λ w g. record { took = λ most n. then-takes-not _ (x .takes w g .took most n) _ (ap labelOf q) } }
 
-    module _ {l l′ : ℤ} {next : Cursor} (q : r ≡ label.the-variants.Got l next) (h : l′ ≡ l) (u : meant.Meant) (d : meantOf l′ u ≡ absentOr modes o z l′) where
-      says : {y : Answer Opened} → meantOf l′ u ≡ y → absentOr modes o z l ≡ y
-      says e = ap (λ a. absentOr modes o z a) (sym h) ∙ sym d ∙ e
+    module _ {l l′ : ℤ} {next : Cursor} (q : r ≡ label.the-variants.Got l next) (h : l′ ≡ l) (u : meant.Meant) (d : meantOf u ≡ absentOr modes o z l′) where
+      says : {v : meant.Meant} → u ≡ v → absentOr modes o z l ≡ meantOf v
+      says e = ap (λ a. absentOr modes o z a) (sym h) ∙ sym d ∙ ap meantOf e
 
-      pub labelled-not : {k : ℕ} → u ≡ meant.the-variants.Refused k → Opens m c (Refused k) (labelled m modes o z)
+      pub labelled-error : u ≡ meant.the-variants.Error → Opens m c (Refused 25) (labelled m modes o z)
       unfolding labelled ownLabel _>>=_
-      labelled-not {k} e = record { takes = λ w g. record { took = λ most n. then-takes _ (x .takes w g .took most n) _ (ap labelOf q) (rw (says (ap (meantOf l′) e)) (took-refuses k)) } }
+      labelled-error e = record { takes = λ w g. record { took = λ most n. then-takes _ (x .takes w g .took most n) _ (ap labelOf q) (rw (says e) (took-refuses 25)) } }
 
-      labelled-is : (y : Opened) → meantOf l′ u ≡ ok y → (r′ : Opening) → openedOf r′ ≡ ok (y, next) → Opens m c r′ (labelled m modes o z)
+      pub labelled-says : {y : Seen} → u ≡ meant.the-variants.Says y → Opens m c (Read y next) (labelled m modes o z)
       unfolding labelled ownLabel _>>=_
-      labelled-is y e r′ v = record {
-        takes = λ w g. rw v (record {
+      labelled-says {y} e = record {
+        takes = λ w g. record {
           took = λ most n.
               let t = x .takes w g .took most n in
-              then-takes _ t _ (ap labelOf q) (rw (says e) (took-ends y next (took-ready _ t (ap labelOf q)) (took-inside _ t (ap labelOf q))));
-        });
+              then-takes _ t _ (ap labelOf q) (rw (says e) (took-ends (seenOf y) next (took-ready _ t (ap labelOf q)) (took-inside _ t (ap labelOf q))));
+        };
       }
-
-      pub labelled-gone : {kind : ℕ} → u ≡ meant.the-variants.Gone kind → Opens m c (Gone kind next) (labelled m modes o z)
-      labelled-gone {kind} e = labelled-is (gone kind) (ap (meantOf l′) e) (Gone kind next) refl
-
-      pub labelled-here : u ≡ meant.the-variants.Here → Opens m c (Here (Label l′) next) (labelled m modes o z)
-      labelled-here e = labelled-is (here (some l′)) (ap (meantOf l′) e) (Here (Label l′) next) refl
 
   pub open-labelled : (r : Opening) → (o || z) ≡ true → Opens m c r (labelled m modes o z) → Opens m c r (opened m modes o z)
   unfolding opened
   open-labelled r e x = record { takes = λ w g. record { took = λ most n. rw e (x .takes w g .took most n) } }
 
-  pub open-here : (o || z) ≡ false → Inside m c → Opens m c (Here Open c) (opened m modes o z)
+  pub open-here : (o || z) ≡ false → Inside m c → Opens m c (Read (Here Open) c) (opened m modes o z)
   unfolding opened
   open-here e i = record { takes = λ w g. record { took = λ most n. rw e (took-ends (here none) c g i) } }

@@ -1,6 +1,7 @@
 pub mod Opens
 pub mod Fronts
-pub mod Values
+pub mod Steps
+pub mod Parents
 pub mod Loops
-pub mod Runs
+pub mod Several
 pub mod Descents

@@ -1,3 +1,4 @@
 pub mod Descent
 pub mod Opening
+pub mod Parent
 pub mod Walk

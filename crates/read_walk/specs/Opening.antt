@@ -13,6 +13,7 @@ use Rattle.read_leaf.specs.State.{Ready, Takes}
 use Rattle.read_leaf.specs.Meaning.{frontOf}
 use Rattle.read_walk.specs.declared.opening.Opening as opening
 use Rattle.read_walk.specs.declared.opening.Meant as meant
+use Rattle.read_walk.specs.declared.opening.Seen as seen
 
 -- The kind of its row, if the value is not there; or the label in front of it, if one was read.
 pub data Opened : Type 0 where
@@ -53,15 +54,21 @@ module _ (m : List ℕ) (modes : ℕ) where
     valueAt o v s = value (inMessage m) o (λ l t. node (inMessage m) modes held v l t) s
 
 -- What the code's answers say of this.
-abbrev pub meantOf : ℤ → meant.Meant → Answer Opened
-meantOf l (meant.the-variants.Gone kind) = ok (gone kind)
-meantOf l meant.the-variants.Here = ok (here (some l))
-meantOf l (meant.the-variants.Refused e) = refuse e 0
+abbrev pub seenOf : seen.Seen → Opened
+seenOf (seen.the-variants.Gone kind) = gone kind
+seenOf (seen.the-variants.Here front) = here (frontOf front)
+
+abbrev pub meantOf : meant.Meant → Answer Opened
+meantOf (meant.the-variants.Says x) = ok (seenOf x)
+meantOf meant.the-variants.Error = refuse 25 0
 
 abbrev pub openedOf : opening.Opening → Answer (Opened × Cursor)
-openedOf (opening.the-variants.Gone kind c) = ok (gone kind, c)
-openedOf (opening.the-variants.Here front c) = ok (here (frontOf front), c)
+openedOf (opening.the-variants.Read x c) = ok (seenOf x, c)
 openedOf (opening.the-variants.Refused e) = refuse e 0
+
+abbrev pub refusalOf : opening.Opening → ℕ
+refusalOf (opening.the-variants.Read x c) = 0
+refusalOf (opening.the-variants.Refused e) = e
 
 -- A label is read in the core alone, so that the work is anything.
 pub record Opens (m : List ℕ) (c : Cursor) (r : opening.Opening) (f : State (inMessage m) → Answer (Opened × State (inMessage m))) : Type 0 where

@@ -10,9 +10,14 @@ use Rattle.format.specs.Read.{inMessage, entries, wire, all, fieldCount}
 use Rattle.laws.specs.Tree.{depthWire, depth, depthFields}
 use Rattle.label.specs.declared.cursor.Cursor.{Cursor}
 use Rattle.read_leaf.specs.declared.Step.{Step}
+use Rattle.read_leaf.specs.declared.Step.the-variants.{Done, Refused}
 use Rattle.read_leaf.specs.State.{Walks}
 use Rattle.read_walk.specs.Opening.{valueAt}
 use Rattle.wire_types.specs.Typed.{heldIn, IsNode, IsWire, AreFields}
+
+abbrev pub refusalOf : Step → ℕ
+refusalOf (Done c n) = 0
+refusalOf (Refused e) = e
 
 -- The work and the rows before and after a step that began with the core at c and n rows, over the type at a node.
 module _ (m work work′ before now : List ℕ) (c : Cursor) (n : ℕ) (r : Step) (table : List ℕ) (modes node : ℕ) where
@@ -29,6 +34,6 @@ module _ (m work work′ before now : List ℕ) (c : Cursor) (n : ℕ) (r : Step
     pub does : (v : Node) → IsNode table work node v → Walks m work work′ c n before now r (entries (inMessage m) count (valueAt m modes (heldIn table) false v))
 
   -- so many values by one loop: entries or fields
-  pub record ReadsRun (repeated : Bool) (count : ℕ) : Type 0 where
+  pub record ReadsValues (repeated : Bool) (count : ℕ) : Type 0 where
     pub entries : repeated ≡ true → ReadsEntries count
     pub fields : repeated ≡ false → ReadsFields count

@@ -10,31 +10,30 @@ ghost use Rattle.read_leaf.specs.State.{Ready};
 ghost use Rattle.read_leaf.specs.Meaning.{frontOf};
 ghost use Rattle.wire_types.specs.Typed.{Sized, FitsNode, FitsWire};
 ghost use Rattle.wire_types.specs.Run.{FitRun};
-ghost use Rattle.read_walk.specs.Walk.{ReadsValue, ReadsWire, ReadsRun};
+ghost use Rattle.read_walk.specs.Walk.{refusalOf, ReadsValue, ReadsWire, ReadsValues};
 
 pub mod descent;
 pub mod opening;
+pub mod parent;
 
 use descent::Descent;
 use label::Cursor;
-use label::Label;
 use opening::Opening;
+use opening::Seen;
+use parent::Parent;
 use read_leaf::Step;
-use read_leaf::front;
 use read_leaf::front::Front;
-use read_leaf::front::Size;
 use read_leaf::push;
-use read_leaf::push::Put;
-use rows::kind;
 use table::nodes;
 
-// The same answer, made anew: a copy of it would copy the bytes behind a refusal's number too, which takes longer.
-fn again(r: Step) -> Step
-    ensures { λ same. ⌜ same ≡ r ⌝ }
+// The number of the refusal, 0 if it is none. Only the number is handed on: to return the answer that was refused would copy
+// all the bytes that an answer may have, which takes longer.
+fn refusal(r: Step) -> u64
+    ensures { λ number. ⌜ number ≡ refusalOf r ⌝ }
 {
     match r {
-        Step::Refused(number) => Step::Refused(number),
-        Step::Done(core, n) => Step::Done(core, n),
+        Step::Refused(number) => number,
+        Step::Done(_, _) => 0,
     }
 }
 
@@ -59,7 +58,8 @@ fn block(
     read_leaf::read_leaf(m, rows, work, modes, key, leaf, dedup, front, c, n)
 }
 
-// The value at a node, on a path of at most `left` nodes from here on: a checked table's has at most 32.
+// The value at a node. A path may have `left` nodes from this one on, itself among them: 32 at the root, and one less below
+// each node. A checked table has no longer one, so that this ends.
 fn value(
     table: &[u8],
     m: &[u8],
@@ -77,12 +77,15 @@ fn value(
 {
     let nullable = nodes::kind_at(table, node) == nodes::NULLABLE;
     let first = opening::open(m, modes, omittable, nullable, c);
-    match first {
-        Opening::Refused(number) => Step::Refused(number),
-        Opening::Gone(row, next) => push::row(rows, n, row, 0, 0, next),
-        Opening::Here(front, next) => {
-            let i = wire_types::below(nullable, node);
-            wire(table, m, rows, work, modes, i, front, next, n, left)
+    let Opening::Read(seen, next) = first else {
+        return Step::Refused(opening::refusal(first));
+    };
+    match seen {
+        Seen::Gone(row) => push::row(rows, n, row, 0, 0, next),
+        Seen::Here(front) => {
+            let own = wire_types::below(nullable, node);
+            let path = wire_types::path_below(nullable, left);
+            wire(table, m, rows, work, modes, own, front, next, n, path)
         }
     }
 }
@@ -116,7 +119,7 @@ fn wire(
     block(table, m, rows, work, modes, node, front, c, n)
 }
 
-// Unlabelled: a label in front of it is 0.
+// Its row, and then its fields.
 fn record(
     table: &[u8],
     m: &[u8],
@@ -132,17 +135,14 @@ fn record(
     requires { ⌜ Ready (now m) (now work) × Inside (now m) c × Sized (now table) × FitsWire (now table) (now work) left node × (nodeAt (now table) node .kind ≡ RECORD) ⌝ }
     ensures { λ r. ⌜ ReadsWire (now (m .entry)) (now (work .entry)) (now (work .exit)) (now (rows .entry)) (now (rows .exit)) c n r (now (table .entry)) modes node (frontOf front) ⌝ }
 {
-    if !front::is_bare(front) {
-        return Step::Refused(24);
-    }
-    let count = nodes::argument_at(table, node);
-    let Put::Next(next) = push::push(rows, n, kind::RECORD, count as u64, 0) else {
-        return Step::Refused(31);
+    let p = parent::make_row(table, m, rows, node, false, front, c, n);
+    let Parent::Made(count, core, next) = p else {
+        return Step::Refused(parent::refusal(p));
     };
     if count == 0 {
-        return Step::Done(c, next);
+        return Step::Done(core, next);
     }
-    run(
+    values(
         table,
         m,
         rows,
@@ -150,7 +150,7 @@ fn record(
         modes,
         node + 1,
         false,
-        c,
+        core,
         next,
         left - 1,
         count,
@@ -173,16 +173,11 @@ fn array(
     requires { ⌜ Ready (now m) (now work) × Inside (now m) c × Sized (now table) × FitsWire (now table) (now work) left node × (nodeAt (now table) node .kind ≡ ARRAY) ⌝ }
     ensures { λ r. ⌜ ReadsWire (now (m .entry)) (now (work .entry)) (now (work .exit)) (now (rows .entry)) (now (rows .exit)) c n r (now (table .entry)) modes node (frontOf front) ⌝ }
 {
-    let Label::Got(l, core) = front::own_label(m, front, c) else {
-        return Step::Refused(23);
+    let p = parent::make_row(table, m, rows, node, true, front, c, n);
+    let Parent::Made(count, core, next) = p else {
+        return Step::Refused(parent::refusal(p));
     };
-    let Size::Of(count) = front::size_of(l) else {
-        return Step::Refused(24);
-    };
-    let Put::Next(next) = push::push(rows, n, kind::ARRAY, count as u64, 0) else {
-        return Step::Refused(31);
-    };
-    run(
+    values(
         table,
         m,
         rows,
@@ -199,7 +194,7 @@ fn array(
 
 // So many values: entries, which all have the type at `node`, or fields, the first of them at `node`. One loop for both,
 // so that a call is made for what a record or an array holds, and none for each value, nor for what holds one value alone.
-fn run(
+fn values(
     table: &[u8],
     m: &[u8],
     rows: &mut [u64],
@@ -213,7 +208,7 @@ fn run(
     count: usize,
 ) -> Step
     requires { ⌜ Ready (now m) (now work) × Inside (now m) c × Sized (now table) × FitRun (now table) (now work) left node repeated count ⌝ }
-    ensures { λ r. ⌜ ReadsRun (now (m .entry)) (now (work .entry)) (now (work .exit)) (now (rows .entry)) (now (rows .exit)) c n r (now (table .entry)) modes node repeated count ⌝ }
+    ensures { λ r. ⌜ ReadsValues (now (m .entry)) (now (work .entry)) (now (work .exit)) (now (rows .entry)) (now (rows .exit)) c n r (now (table .entry)) modes node repeated count ⌝ }
 {
     let mut k = count;
     let mut at = node;
@@ -225,11 +220,11 @@ fn run(
         let start = core;
         let d = descent::descend(table, m, rows, at, omittable, start, i, left);
         let Descent::To(inner, absent, from, next, path) = d else {
-            return Step::Refused(31);
+            return Step::Refused(descent::refusal(d));
         };
         let r = value(table, m, rows, work, modes, inner, absent, from, next, path);
         let Step::Done(after, written) = r else {
-            return again(r);
+            return Step::Refused(refusal(r));
         };
         at = end;
         core = after;
@@ -251,5 +246,5 @@ pub fn root(
     requires { ⌜ Ready (now m) (now work) × Inside (now m) c × Sized (now table) × FitsNode (now table) (now work) 32 0 ⌝ }
     ensures { λ r. ⌜ ReadsValue (now (m .entry)) (now (work .entry)) (now (work .exit)) (now (rows .entry)) (now (rows .exit)) c 0 r (now (table .entry)) modes 0 false ⌝ }
 {
-    run(table, m, rows, work, modes, 0, true, c, 0, 32, 1)
+    values(table, m, rows, work, modes, 0, true, c, 0, 32, 1)
 }

@@ -8,13 +8,13 @@ use lib.ListN.{length, take, drop, length-append, length-drop, drop-of-length-le
 use lib.Seq.{sets, sets-eq, take-at, drop-at, take-length}
 use Rattle.format.specs.Answer.{Answer, number, second, output, zeros, padded}
 use Rattle.format.specs.Row.{Place, Row, rowWidth, words}
-use Rattle.laws.specs.Facts.{absurd-ok}
 use Rattle.label.specs.declared.cursor.Cursor.{Cursor}
 use Rattle.table.specs.declared.Answer as code
 use Rattle.read_leaf.specs.declared.Step.{Step}
 use Rattle.read_leaf.specs.declared.Step.the-variants.{Done, Refused}
 use Rattle.read_leaf.specs.Does.{words-length}
-use Rattle.reader.specs.Reader.{Gives, usedBy, Answers, Stays}
+use Rattle.wire_types.specs.Typed.{Kept}
+use Rattle.reader.specs.Reader.{Gives, usedBy, Answers}
 
 -- what stands behind the first n is set to 0
 rest-zeroed : (vs rest part : List ℕ) (n : ℕ) → length vs ≡ n → part ≡ zeros (length (take (length (vs ++ rest) - n) (drop n (vs ++ rest))))
@@ -53,11 +53,11 @@ cleared l part used = take used l ++ (part ++ drop (length l - used) (drop used 
 
 module _ (table l l₁ w part : List ℕ) (a : Answer (List (Row Place))) (x : code.Answer) (k : length l₁ ≡ length l) where
   by-step : (r : Step) → Gives table l l₁ w r a → Answers r x → part ≡ zeros (length (take (length l₁ - usedBy r) (drop (usedBy r) l₁)))
-      → (x .number ≡ number a) × ((x .second ≡ second (λ rs. length rs) a) × ((cleared l₁ part (usedBy r) ≡ output words (length l) a) × Stays table w a))
+      → (x .number ≡ number a) × ((x .second ≡ second (λ rs. length rs) a) × ((cleared l₁ part (usedBy r) ≡ output words (length l) a) × Kept table w))
   unfolding number second output
-  by-step (Refused e) g y z = rw g (y .0, (y .1, (rest-zeroed [] l₁ part 0 refl z ∙ rw (k, sub-zero) refl, record { kept = λ rs h. absurd-ok h })))
-  by-step (Done c n) (rs, e, q, s, f, t) y z = rw e (y .0, (y .1 ∙ q, (rw (q, s) (rows-padded l part rs f (rw (q, s) at z)), record { kept = λ rs₁ h. t })))
+  by-step (Refused e) (g, t) y z = rw g (y .0, (y .1, (rest-zeroed [] l₁ part 0 refl z ∙ rw (k, sub-zero) refl, t)))
+  by-step (Done c n) (rs, e, q, s, f, t) y z = rw e (y .0, (y .1 ∙ q, (rw (q, s) (rows-padded l part rs f (rw (q, s) at z)), t)))
 
   pub left-zero : {used : ℕ} (r : Step) → Gives table l l₁ w r a → Answers r x → used ≡ usedBy r → part ≡ zeros (length (take (length l₁ - used) (drop used l₁)))
-      → (x .number ≡ number a) × ((x .second ≡ second (λ rs. length rs) a) × ((cleared l₁ part used ≡ output words (length l) a) × Stays table w a))
+      → (x .number ≡ number a) × ((x .second ≡ second (λ rs. length rs) a) × ((cleared l₁ part used ≡ output words (length l) a) × Kept table w))
   left-zero r g y u z = rw u (by-step r g y (rw u at z))

@@ -20,7 +20,7 @@ use Rattle.store.specs.Same.{Same}
 use Rattle.read_leaf.specs.declared.Step.{Step}
 use Rattle.read_leaf.specs.declared.Step.the-variants.{Done, Refused}
 use Rattle.read_leaf.specs.State.{mostRows, Ready, cursorOf, stateOf, Does}
-use Rattle.read_leaf.specs.Does.{done-ready, done-inside, done-same}
+use Rattle.read_leaf.specs.Does.{done-ready, done-inside}
 use Rattle.wire_types.specs.Typed.{Sized, heldIn, FitsNode, Kept}
 use Rattle.wire_types.specs.Nodes.{node-kept}
 use Rattle.wire_types.specs.Root.{kept-sized, kept-held, kept-deep, kept-root, kept-fits, kept-still}
@@ -42,7 +42,11 @@ record Ended (m : List ℕ) (most : ℕ) (w l l′ : List ℕ) (a : Answer (List
 module _ {m : List ℕ} {most : ℕ} {w w′ l l′ : List ℕ} {r : Step} where
   does-refused : {e : ℕ} (a : Answer (List (Row Place) × State (inMessage m))) → Does m most w w′ 0 l l′ r a → r ≡ Refused e → a ≡ refuse e 0
   does-refused (ok x) d q = absurd (let z : _≡_ {A = ℕ} 0 1 = cc (d .answer) in omega arith)
-  does-refused {e} (refuse k i) d q = let z : k ≡ e = cc (d .answer) in rw (z, d .left) refl
+  does-refused {e} (refuse k i) d q = let z : k ≡ e = cc (d .answer) in rw (z, d .left .0) refl
+
+  does-same : (a : Answer (List (Row Place) × State (inMessage m))) → Does m most w w′ 0 l l′ r a → Same w w′
+  does-same (ok x) d = d .left .1 .same
+  does-same (refuse k i) d = d .left .1
 
   does-ended : {c : Cursor} {n : ℕ} (a : Answer (List (Row Place) × State (inMessage m))) → Does m most w w′ 0 l l′ r a → r ≡ Done c n → Ended m most w′ l l′ a c n
   does-ended (refuse k i) d q = absurd (let z : _≡_ {A = ℕ} 0 1 = cc (d .answer) in omega arith)
@@ -79,9 +83,9 @@ module _ (table m w l : List ℕ) (k : Kept table w) where
       go (ok p) = refl
       go (refuse e i) = refl
 
-  pub rows-20 : (b : Bool) → b ≡ isSized m → not b ≡ true → answer ≡ refuse 20 0
+  pub rows-20 : (b : Bool) → b ≡ isSized m → not b ≡ true → Gives table l l w (Refused 20) answer
   unfolding readChecked isSized needAt _>>_
-  rows-20 b e q = answer-is ∙ rw (sym e ∙ not-true b q) refl
+  rows-20 b e q = (answer-is ∙ rw (sym e ∙ not-true b q) refl, k)
 
   -- the bytes are as many as there may be
   module _ (b : Bool) (e₁ : b ≡ isSized m) (q₁ : not b ≡ false) where
@@ -90,19 +94,21 @@ module _ (table m w l : List ℕ) (k : Kept table w) where
     sized-is = let p = and-eq-true-iff (leb 1 (length m)) (leb (length m) 65536) .0 (sym e₁ ∙ not-false b q₁) in (leb-true _ _ (p .0), leb-true _ _ (p .1))
 
     module _ (h : header.Header) (e₂ : headerOf h ≡ readHeader (getD m 0 0)) where
-      pub rows-21 : h ≡ header.the-variants.Other → answer ≡ refuse 21 0
+      pub rows-21 : h ≡ header.the-variants.Other → Gives table l l w (Refused 21) answer
       unfolding readChecked isSized needAt _>>_ _>>=_
-      rows-21 q = answer-is ∙ rw (sym e₁ ∙ not-false b q₁, sym e₂ ∙ ap headerOf q) refl
+      rows-21 q = (answer-is ∙ rw (sym e₁ ∙ not-false b q₁, sym e₂ ∙ ap headerOf q) refl, k)
 
       module _ {modes : ℕ} (q₂ : h ≡ header.the-variants.Modes modes) where
         from-start : answer ≡ (start m modes most >>= (λ s. walk (inMessage m) modes (k .schema .held) (k .schema .root) s >>= finish))
         unfolding readChecked isSized needAt finish _>>_ _>>=_
         from-start = answer-is ∙ rw (sym e₁ ∙ not-false b q₁, sym e₂ ∙ ap headerOf q₂) (start-then modes (λ s. walk (inMessage m) modes (k .schema .held) (k .schema .root) s >>= finish))
 
-        module _ {w₁ : List ℕ} (y : begun.Begun) (x : Begins m modes w w₁ y) where
-          pub rows-22 : y ≡ begun.the-variants.Bad → answer ≡ refuse 22 0
+        module _ {w₁ : List ℕ} (y : begun.Begun) (x : Begins m modes w w₁ y) (n₁ : length w₁ ≡ length w) where
+          pub rows-22 : y ≡ begun.the-variants.Bad → Gives table l l w₁ (Refused 22) answer
           unfolding _>>=_
-          rows-22 q = from-start ∙ rw (sym (x .is most) ∙ ap (begunOf m most w₁) q) refl
+          rows-22 q =
+              let s : Same w w₁ = subst (BegunIn m w w₁) q (x .stands) in
+              (from-start ∙ rw (sym (x .is most) ∙ ap (begunOf m most w₁) q) refl, kept-still k (omega (arith, n₁, k .whole)) (s .at))
 
           -- the walk from the root
           module _ {core : Cursor} (q₃ : y ≡ begun.the-variants.Core core) where
@@ -110,7 +116,7 @@ module _ (table m w l : List ℕ) (k : Kept table w) where
             begun-in = subst (BegunIn m w w₁) q₃ (x .stands)
 
             kept : Kept table w₁
-            kept = kept-still k (begun-in .0 .good .slots .whole) (begun-in .2 .at)
+            kept = kept-still k (omega (arith, n₁, k .whole)) (begun-in .2 .at)
 
             pub root-ready : Ready m w₁ × Inside m core × Sized table × FitsNode table w₁ 32 0
             root-ready = (begun-in .0, begun-in .1, kept-sized kept, kept-fits kept)
@@ -120,13 +126,16 @@ module _ (table m w l : List ℕ) (k : Kept table w) where
             from-root = from-start ∙ rw (sym (x .is most) ∙ ap (begunOf m most w₁) q₃)
                 (ap (λ held. walk (inMessage m) modes held (k .schema .root) (stateOf m most w₁ core 0) >>= finish) (kept-held k))
 
-            module _ {w₂ l₂ : List ℕ} (r : Step) (v : ReadsValue m w₁ w₂ l l₂ core 0 r table modes 0 false) where
+            module _ {w₂ l₂ : List ℕ} (r : Step) (v : ReadsValue m w₁ w₂ l l₂ core 0 r table modes 0 false) (n₂ : length w₂ ≡ length w₁) where
               root-does : Does m most w₁ w₂ 0 l l₂ r (valueAt m modes (heldIn table) false (k .schema .root) (stateOf m most w₁ core 0))
               root-does = v .does (k .schema .root) (node-kept table w w₁ 0 (k .schema .root) (kept-sized k) (begun-in .2 .at) (kept-root k))
 
+              kept-then : Kept table w₂
+              kept-then = kept-still kept (omega (arith, n₂, kept .whole)) (does-same _ root-does .at)
+
               pub rows-gone : {e : ℕ} → r ≡ Refused e → Gives table l l₂ w₂ r answer
               unfolding _>>=_
-              rows-gone q = rw q (from-root ∙ rw (does-refused _ root-does q) refl)
+              rows-gone q = rw q (from-root ∙ rw (does-refused _ root-does q) refl, kept-then)
 
               module _ {end : Cursor} {n : ℕ} (q₄ : r ≡ Done end n) where
                 ended : Ended m most w₂ l l₂ (valueAt m modes (heldIn table) false (k .schema .root) (stateOf m most w₁ core 0)) end n
@@ -139,9 +148,9 @@ module _ (table m w l : List ℕ) (k : Kept table w) where
                   told : isDone (inMessage m) (stateOf m most w₂ end n) ≡ d
                   told = z .is m most n end-ready (done-inside _ root-does q₄)
 
-                  pub rows-30 : not d ≡ true → answer ≡ refuse 30 0
+                  pub rows-30 : not d ≡ true → Gives table l l₂ w₂ (Refused 30) answer
                   unfolding finish needAt _>>_ _>>=_
-                  rows-30 q = from-root ∙ rw (ended .is, told ∙ not-true d q) refl
+                  rows-30 q = (from-root ∙ rw (ended .is, told ∙ not-true d q) refl, kept-then)
 
                   pub rows-are : not d ≡ false → Gives table l l₂ w₂ (Done end n) answer
                   unfolding finish needAt _>>_ _>>=_
@@ -151,5 +160,5 @@ module _ (table m w l : List ℕ) (k : Kept table w) where
                     ended .count,
                     ended .stored,
                     omega (arith, ended .room),
-                    kept-still kept (end-ready .good .slots .whole) (done-same _ root-does q₄ .at),
+                    kept-then,
                   )

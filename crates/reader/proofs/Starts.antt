@@ -65,7 +65,7 @@ module _ (m w w₁ w₂ : List ℕ) (at end : ℕ) (small : length m ≤ 65536) 
   store-is = d₂ .store ∙ ap (rested (record { at = at; end = end })) (d₁ .store)
 
   ready-begun : Blocks m at end → Ready m w₂
-  ready-begun b = record { small = small; good = d₂ .good; blocks = rw store-is b; slots = λ k p e. none-found k (rw store-is at e) }
+  ready-begun b = record { small = small; good = d₂ .good; blocks = rw store-is b; slots = λ k p e. none-found k (rw store-is at e); starts = λ k p l e. none-found k (rw store-is at e) }
 
   same-begun : Same w w₂
   same-begun = record { at = λ i h. d₂ .outside i h ∙ d₁ .outside i h }
@@ -81,8 +81,8 @@ module _ (m w w₁ : List ℕ) (modes : ℕ) (small : length m ≤ 65536) (whole
   }
 
   module _ (z : modes % 2 ≡ 1 → ⊥) (r : Parts) (x : Parted m r) where
-    pub begin-bad : {w₂ : List ℕ} → r ≡ Bad → Begins m modes w w₂ begun.the-variants.Bad
-    begin-bad q = record { is = λ most. sym (start-bad m modes most (inline-not modes z) (sym (x .is) ∙ ap (partsOf m) q)); stands = tt }
+    pub begin-bad : r ≡ Bad → Begins m modes w w₁ begun.the-variants.Bad
+    begin-bad q = record { is = λ most. sym (start-bad m modes most (inline-not modes z) (sym (x .is) ∙ ap (partsOf m) q)); stands = record { at = λ i h. z₁ .below i (omega arith) } }
 
     pub begin-found : {w₂ : List ℕ} {core rest : Cursor} → r ≡ Found core rest → Moved w₁ w₂ (rested (record { at = rest .at; end = rest .end })) → Begins m modes w w₂ (begun.the-variants.Core core)
     begin-found {w₂} {core} {rest} q v₂ =

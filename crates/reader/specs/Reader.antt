@@ -33,10 +33,10 @@ rowsOf table m lent = do
   schema ← schemaOf table
   readChecked schema m lent
 
--- The rows stand in the buffer, and the work is right for another message; nothing is said of buffers after a refusal.
+-- The rows stand in the buffer; after a refusal nothing is said of it. In either case the work is right for another message.
 abbrev pub Gives : List ℕ → List ℕ → List ℕ → List ℕ → Step → Answer (List (Row Place)) → Type 0
 Gives table before now work (Done c n) a = (rs : List (Row Place)) × (a ≡ ok rs) × (n ≡ length rs) × (now ≡ sets before 0 (words rs)) × (rowWidth * length rs ≤ length before) × Kept table work
-Gives table before now work (Refused e) a = a ≡ refuse e 0
+Gives table before now work (Refused e) a = (a ≡ refuse e 0) × Kept table work
 
 -- how many words of the buffer are the answer's then, and the two numbers
 abbrev pub usedBy : Step → ℕ
@@ -46,10 +46,6 @@ usedBy (Refused e) = 0
 abbrev pub Answers : Step → code.Answer → Type 0
 Answers (Done c n) r = (r .number ≡ 0) × (r .second ≡ n)
 Answers (Refused e) r = (r .number ≡ e) × (r .second ≡ 0)
-
--- where the message is read, the work is right for another one
-pub record Stays (table work : List ℕ) (a : Answer (List (Row Place))) : Type 0 where
-  pub kept : (rs : List (Row Place)) → a ≡ ok rs → Kept table work
 
 -- the state that a walk begins with
 unfoldable pub start : (m : List ℕ) → ℕ → ℕ → Answer (State (inMessage m))
@@ -63,7 +59,7 @@ begunOf m most w Bad = refuse 22 0
 
 abbrev pub BegunIn : List ℕ → List ℕ → List ℕ → Begun → Type 0
 BegunIn m w w′ (Core c) = Ready m w′ × Inside m c × Same w w′
-BegunIn m w w′ Bad = Unit {0}
+BegunIn m w w′ Bad = Same w w′
 
 pub record Begins (m : List ℕ) (modes : ℕ) (w w′ : List ℕ) (r : Begun) : Type 0 where
   pub is : (most : ℕ) → begunOf m most w′ r ≡ start m modes most

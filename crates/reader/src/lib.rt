@@ -6,11 +6,12 @@ ghost use Rattle.format.specs.Answer.{number, second, output, zeros};
 ghost use Rattle.format.specs.Row.{words};
 ghost use Rattle.format.specs.Read.{read as readOf};
 ghost use Rattle.wire_types.specs.Typed.{Kept};
-ghost use Rattle.reader.specs.Reader.{isSized, rowsOf, Begins, Gives, usedBy, Answers, Stays};
+ghost use Rattle.reader.specs.Reader.{isSized, rowsOf, Begins, Gives, usedBy, Answers};
 
 mod done;
 
 use format::MOST_BYTES;
+use format::ROW_WIDTH;
 use label::Cursor;
 use modes::Header;
 use read_leaf::Step;
@@ -83,7 +84,7 @@ fn used_words(r: Step) -> usize
 {
     match r {
         Step::Refused(_) => 0,
-        Step::Done(_, count) => 3 * count,
+        Step::Done(_, count) => ROW_WIDTH * count,
     }
 }
 
@@ -99,14 +100,14 @@ fn answer_of(r: Step) -> Answer
     }
 }
 
-// For a table that was checked, with the work as the check has kept it. Where the message is read, the work is right
-// for another one.
+// For a table that was checked, with the work as the check has kept it. Whether the message is read or refused, the work is
+// right for another one afterwards.
 fn read_checked(table: &[u8], message: &[u8], rows: &mut [u64], work: &mut [u32]) -> Answer
     requires { ⌜ Kept (now table) (now work) ⌝ }
     ensures { λ r. ⌜ r .number ≡ number (rowsOf (now (table .entry)) (now (message .entry)) (length (now (rows .entry)))) ⌝ }
     ensures { λ r. ⌜ r .second ≡ second (λ rs. length rs) (rowsOf (now (table .entry)) (now (message .entry)) (length (now (rows .entry)))) ⌝ }
     ensures { λ r. ⌜ now (rows .exit) ≡ output words (length (now (rows .entry))) (rowsOf (now (table .entry)) (now (message .entry)) (length (now (rows .entry)))) ⌝ }
-    ensures { λ _. ⌜ Stays (now (table .entry)) (now (work .exit)) (rowsOf (now (table .entry)) (now (message .entry)) (length (now (rows .entry)))) ⌝ }
+    ensures { λ _. ⌜ Kept (now (table .entry)) (now (work .exit)) ⌝ }
 {
     let r = rows_of(table, message, rows, work);
     let used = used_words(r);

@@ -11,7 +11,7 @@ use Rattle.format.specs.Read.{Reading, nth}
 use Rattle.laws.specs.Facts.{by-eq}
 use Rattle.store.specs.Lists.{upto, upto-length, upto-nth, upto-ext, upto-snoc, sum-at, sum-room}
 use Rattle.store.specs.Store.{lookup, change, moveTo, opened, advanced, rested}
-use Rattle.store.specs.Words.{word, keyOf, readingOf, indexOf, slotCount, slotOf, slotsOf, GoodSlots, Moved}
+use Rattle.store.specs.Words.{word, keyOf, readingOf, indexOf, slotCount, slotOf, slotsOf, GoodSlots, Moved, Begun}
 use Rattle.store.specs.Slots.{skip, hit, reading-eq, store-eq, slot-most, good-slots-kept, slots-below}
 
 -- ---- what stands under a key in a list made by a rule
@@ -226,6 +226,27 @@ module _ (w : List ℕ) (g : GoodSlots w) (key at : ℕ) (hk : key < 32) where
   }
 
 -- ---- the reading place of no key
+
+module _ (w : List ℕ) (g : GoodSlots w) (at : ℕ) where
+  abbrev t : List ℕ
+  t = set w 1153 at
+
+  pub rest-moved : Moved w t (rested (record { at = at; end = word w 1154 }))
+  rest-moved =
+      let l : length t ≡ length w = simp length-set in
+      let b : (i : ℕ) → i < 1153 → word t i ≡ word w i = λ i h. skip w 1153 at i (omega arith) in
+      let s = slots-below w t g l b in
+      record {
+        good = s .0;
+        store = λ literals. store-eq (s .1) (reading-eq (hit w 1153 at (omega (arith, g .whole))) (skip w 1153 at 1154 (omega arith))) refl;
+        size = l;
+        outside = λ i h. b i (omega arith);
+        behind = λ i h. skip w 1153 at i (omega arith);
+      }
+
+-- where a key's piece begins
+pub begun-is : (w : List ℕ) (key start : ℕ) → 16384 ≤ length w → key < 32 → Begun w (set w (1216 + key) start) key start
+begun-is w key start h k = record { is = hit w (1216 + key) start (omega arith); size = length-set w (1216 + key) start; others = λ i o. skip w (1216 + key) start i o }
 
 module _ (w : List ℕ) (g : GoodSlots w) (at end : ℕ) where
   abbrev u : List ℕ

@@ -9,7 +9,7 @@ use Rattle.format.specs.Read.{Reading, addAt, noLiterals}
 
 pub record Store : Type 0 where
   pub slots : List (ℕ × Reading)  -- the keys touched so far, in the order of first touch, each with its reading place
-  pub rest : Reading  -- one more reading place, of no key
+  pub rest : Reading  -- the blocks that no key has been given yet; the writer has none
   pub literals : List (List Place)  -- the numbered literals of each key
 
 abbrev pub empty : Store
@@ -31,7 +31,7 @@ put k x bs = change k (λ y. x) bs
 abbrev pub moveTo : ℕ → ℕ → List (ℕ × Reading) → List (ℕ × Reading)
 moveTo k n bs = change k (λ p. record { at = n; end = p .end }) bs
 
--- one step of the store each: a slot more, a slot moved on, the place of no key, a literal more
+-- one step of the store each: a slot more, a slot moved on, the blocks of no key, a literal more
 abbrev pub opened : ℕ → Reading → Store → Store
 opened k p s = record { slots = s .slots ++ (k, p) ∷ []; rest = s .rest; literals = s .literals }
 

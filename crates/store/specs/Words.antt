@@ -4,11 +4,12 @@
 -- 1056 + key, 1088 + key    the key's reading place, where it has a slot
 -- 1120 + key                0, or 1 + the number of the key's slot
 -- 1152                      how many slots there are
--- 1153, 1154                the reading place of no key
+-- 1153, 1154                the blocks that no key has been given yet: the reader's alone
 -- 1156                      how many literals there are, all keys together
 -- 1184 + key                how many literals the key has
+-- 1216 + key                where the key's piece begins, which only the reader keeps
 --
--- The literals take word 1,155 and those from 2,048 on: `pages` has them for the reader, which asks for a number, and `chains` for the writer, which asks for a text.
+-- The literals take word 1,155 and those from 2,048 on: `read_literals` has them for the reader, which asks for a number, and `write_literals` for the writer, which asks for a text.
 use mathlib.Core.Path.{_≡_}
 use mathlib.Core.List.{List}
 use Prim.Native.Nat.{ℕ, suc, _+_, _<_, _≤_, min}
@@ -48,6 +49,9 @@ allOf w = word w 1156
 abbrev pub countOf : List ℕ → ℕ → ℕ
 countOf w k = word w (1184 + k)
 
+abbrev pub startOf : List ℕ → ℕ → ℕ
+startOf w k = word w (1216 + k)
+
 -- The table from keys to slots and the list of slots name each other. A slot takes one of the 32 keys, so the sum says that there is room.
 pub record GoodSlots (w : List ℕ) : Type 0 where
   pub whole : 16384 ≤ length w
@@ -67,6 +71,12 @@ pub record Moved (w w′ : List ℕ) (f : Store → Store) : Type 0 where
   pub size : length w′ ≡ length w
   pub outside : (i : ℕ) → i < 1024 → word w′ i ≡ word w i
   pub behind : (i : ℕ) → 1155 ≤ i → word w′ i ≡ word w i
+
+-- What setting where a key's piece begins leaves: that word, and all others as they were.
+pub record Begun (w w′ : List ℕ) (key start : ℕ) : Type 0 where
+  pub is : startOf w′ key ≡ start
+  pub size : length w′ ≡ length w
+  pub others : (i : ℕ) → (i ≡ 1216 + key → ⊥) → word w′ i ≡ word w i
 
 -- Zeros from word `from` up to the last count, and the words below as they were.
 pub record Cleared (from : ℕ) (w w′ : List ℕ) : Type 0 where

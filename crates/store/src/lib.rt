@@ -1,12 +1,12 @@
-// The lent work as a store: a reading place for each key touched so far, one more of no key, and how many literals there are.
-// The literals themselves are kept by `pages` and by `chains`. What each word means stands in specs/Words.antt.
+// The lent work as a store: a place for each key touched so far, the blocks that no key has been given yet, and how many literals there are.
+// The literals themselves are kept by `read_literals` and by `write_literals`. What each word means stands in specs/Words.antt.
 ghost use mathlib.Core.Path.{_≡_};
 ghost use mathlib.Core.Option.{none, some};
 ghost use Prim.Native.Nat.{_<_, _≤_, _^_};
 ghost use lib.ListN.{length};
 ghost use Rattle.format.specs.Read.{nth};
 ghost use Rattle.store.specs.Store.{lookup, opened, advanced, rested};
-ghost use Rattle.store.specs.Words.{slotsOf, restOf, allOf, countOf, GoodSlots, Moved, Cleared};
+ghost use Rattle.store.specs.Words.{slotsOf, restOf, allOf, countOf, startOf, GoodSlots, Moved, Begun, Cleared};
 ghost use Rattle.store.specs.Meaning.{reading, touched, slot, Small};
 
 // The keys of the slots, in order.
@@ -24,7 +24,7 @@ const INDEX: usize = 1120;
 // How many slots there are.
 const SLOTS: usize = 1152;
 
-// The reading place of no key, two words.
+// The blocks that no key has been given yet, from the next one's label to where they end, two words. Only the reader has such.
 const REST: usize = 1153;
 
 // The words from here up to COUNT_END are 0 where there are no literals.
@@ -38,6 +38,9 @@ const COUNT: usize = 1184;
 
 // An empty store has 0 from INDEX up to here.
 const COUNT_END: usize = 1216;
+
+// Where the piece of each key begins. Only the reader keeps it.
+const START: usize = 1216;
 
 pub struct Reading {
     pub at: usize,
@@ -82,7 +85,7 @@ pub fn clear(work: &mut [u32])
     clear_from(work, INDEX);
 }
 
-// No literals any more. The slots and the place of no key stay.
+// No literals any more. The slots and the blocks of no key stay.
 pub fn forget(work: &mut [u32])
     requires { ⌜ 16384 ≤ length (now work) ⌝ }
     ensures { λ _. ⌜ Cleared 1155 (now (work .entry)) (now (work .exit)) ⌝ }
@@ -152,7 +155,7 @@ pub fn slot_at(work: &[u32], i: usize) -> Touched
     Touched { key, at, end }
 }
 
-// The reading place of no key.
+// The blocks that no key has been given yet.
 pub fn rest(work: &[u32]) -> Reading
     requires { ⌜ GoodSlots (now work) ⌝ }
     ensures { λ r. ⌜ reading r ≡ restOf (now (work .entry)) ⌝ }
@@ -169,6 +172,29 @@ pub fn set_rest(work: &mut [u32], at: usize, end: usize)
 {
     work[REST] = at as u32;
     work[REST + 1] = end as u32;
+}
+
+// Its end stays.
+pub fn move_rest(work: &mut [u32], at: usize)
+    requires { ⌜ (GoodSlots (now work)) × (at < 2 ^ 32) ⌝ }
+    ensures { λ _. ⌜ Moved (now (work .entry)) (now (work .exit)) (rested (record { at = at; end = restOf (now (work .entry)) .end })) ⌝ }
+{
+    work[REST] = at as u32;
+}
+
+// Where the piece of a key begins.
+pub fn start(work: &[u32], key: usize) -> usize
+    requires { ⌜ (16384 ≤ length (now work)) × (key < 32) ⌝ }
+    ensures { λ r. ⌜ (r ≡ startOf (now (work .entry)) key) × (r < 2 ^ 32) ⌝ }
+{
+    wide(work[START + key])
+}
+
+pub fn set_start(work: &mut [u32], key: usize, start: usize)
+    requires { ⌜ (16384 ≤ length (now work)) × (key < 32) × (start < 2 ^ 32) ⌝ }
+    ensures { λ _. ⌜ Begun (now (work .entry)) (now (work .exit)) key start ⌝ }
+{
+    work[START + key] = start as u32;
 }
 
 // How many literals there are, all keys together.

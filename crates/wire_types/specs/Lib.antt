@@ -2,3 +2,4 @@ pub mod Typed
 pub mod Nodes
 pub mod Run
 pub mod Root
+pub mod Path

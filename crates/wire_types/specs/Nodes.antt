@@ -107,6 +107,9 @@ module _ (table work : List ℕ) where
 pub node-kept : (table w w′ : List ℕ) (i : ℕ) (v : Node) → Sized table → ((j : ℕ) → j < 1024 → word w′ j ≡ word w j) → IsNode table w i v → IsNode table w′ i v
 node-kept table w w′ i v z k h = has-kept (u16 table 5) (nodeAt table) (λ j. word w j) (λ j. word w′ j) (heldIn table) (λ j b. k j (omega (arith, z .most))) i v h
 
+pub fits-kept : {table w w′ : List ℕ} {left i : ℕ} → Sized table → ((j : ℕ) → j < 1024 → word w′ j ≡ word w j) → FitsNode table w left i → FitsNode table w′ left i
+fits-kept {table} {w} {w′} {left} {i} z k f = record { type = f .type; is = node-kept table w w′ i (f .type) z k (f .is); deep = f .deep; most = f .most }
+
 -- ---- fields, one after another
 
 -- the first of some fields, and the others
@@ -123,3 +126,16 @@ first-of table w node ws h z = by-field _ _ _ _ (First table w node) node ws h z
 pub first-depth : (o : Bool) (v : Node) (vs : Fields) → (depth v ≤ depthFields (field o v vs)) × (depthFields vs ≤ depthFields (field o v vs)) × (fieldCount (field o v vs) ≡ suc (fieldCount vs))
 unfolding depthFields fieldCount
 first-depth o v vs = (omega arith, omega arith, refl)
+
+-- the first and the others are no deeper than all of them, and the others are one less
+pub first-deep : {table w : List ℕ} {node : ℕ} {ws : Fields} (u : First table w node ws) → (depth (u .first) ≤ depthFields ws) × (depthFields (u .others) ≤ depthFields ws) × (fieldCount ws ≡ suc (fieldCount (u .others)))
+first-deep {table} {w} {node} {ws} u =
+    let b = first-depth (omittable (nodeAt table node)) (u .first) (u .others) in
+    let t : depthFields ws ≡ depthFields (field (omittable (nodeAt table node)) (u .first) (u .others)) = ap depthFields (u .splits) in
+    let c : fieldCount ws ≡ fieldCount (field (omittable (nodeAt table node)) (u .first) (u .others)) = ap fieldCount (u .splits) in
+    (omega (arith, b .0), omega (arith, b .1), c ∙ b .2)
+
+pub first-fits : {table w : List ℕ} {left node count : ℕ} → FitFields table w left node count → (count ≡ 0 → ⊥) → FitsNode table w left node
+first-fits {table} {w} {left} {node} f z =
+    let u = first-of table w node (f .types) (f .are) (λ q. z (sym (f .counted) ∙ q)) in
+    record { type = u .first; is = u .is; deep = omega (arith, first-deep u .0, f .deep); most = f .most }

@@ -1,12 +1,13 @@
 // The wire type that a checked table has at a node, for the walks of the reader and of the writer; most of it is in specs/.
-// And what both walks ask on their way: whether a value of a run may be absent, where its own node is, and where the
-// next value's node is.
+// And what both walks ask on their way: whether a value of a run may be absent, where its own node is, what is left of the
+// path there, and where the next value's node is.
 ghost use mathlib.Core.Path.{_≡_};
 ghost use Prim.Native.Nat.{_+_, _*_, _≤_, _<_};
 ghost use lib.ListN.{length};
 ghost use Rattle.format.specs.Table.{nodeAt};
 ghost use Rattle.wire_types.specs.Typed.{below as belowOf};
 ghost use Rattle.wire_types.specs.Run.{absentIn, nextIn};
+ghost use Rattle.wire_types.specs.Path.{pathBelow};
 use table::nodes;
 
 // Only a field may be absent.
@@ -29,6 +30,17 @@ pub fn below(nullable: bool, node: usize) -> usize
         return node + 1;
     }
     node
+}
+
+// The path that is left at the value's own node: a NULLABLE is a node of it too.
+pub fn path_below(nullable: bool, left: usize) -> usize
+    requires { ⌜ 1 ≤ left ⌝ }
+    ensures { λ r. ⌜ r ≡ pathBelow nullable left ⌝ }
+{
+    if nullable {
+        return left - 1;
+    }
+    left
 }
 
 // The node of the next value.

@@ -24,19 +24,11 @@ take-bytes-requires c κs = search needs
 enum-known-r : tie.Need-enum-known-r
 enum-known-r c = search needs
 
-enum-known-r-2 : tie.Need-enum-known-r-2
-enum-known-r-2 c = search needs
+enum-told : tie.Need-enum-told
+enum-told c = search needs
 
-word-at-requires : tie.Need-word-at-requires
-word-at-requires c κs =
-    let c2 = c .before .before in
-    let c6 = c2 .before .before .before .before in
-    let c13 = c6 .before .before .before .before .before .before .before in
-    let a = c13 .args in
-    (subst (λ (p : Part). PartIn (now (a .m)) 8 p) (c2 .r2 .given .1) (c6 .take-bytes .ensures .1)) .1
-
-row-requires : tie.Need-row-requires
-row-requires c κs = search needs
+refusal-requires : tie.Need-refusal-requires
+refusal-requires c κs = search needs
 
 same-length : tie.Need-same-length
 same-length c = search needs
@@ -48,7 +40,18 @@ returns-2 c =
     let c8 = c7 .before in
     let c12 = c8 .before .before .before .before in
     let a = c12 .args in
-    float-not (now (a .m)) (a .modes) (a .key) (now (a .work)) (a .c) (a .n) (c8 .is-bare .ensures) (not-false _ (c7 .if1 .left)) (c5 .take-bytes .ensures .0) (c .before .r .given .1)
+    float-not (now (a .m)) (a .modes) (a .key) (now (a .work)) (a .c) (a .n) (c8 .is-bare .ensures) (not-false _ (c7 .if1 .left)) (c5 .take-bytes .ensures .0) (c .before .enum-told .given .1) (c .refusal .ensures)
+
+word-at-requires : tie.Need-word-at-requires
+word-at-requires c κs =
+    let c2 = c .before .before in
+    let c6 = c2 .before .before .before .before in
+    let c13 = c6 .before .before .before .before .before .before .before in
+    let a = c13 .args in
+    (subst (λ (p : Part). PartIn (now (a .m)) 8 p) (c2 .r .given .1) (c6 .take-bytes .ensures .1)) .1
+
+row-requires : tie.Need-row-requires
+row-requires c κs = search needs
 
 same-length-2 : tie.Need-same-length-2
 same-length-2 c = search needs
@@ -66,8 +69,8 @@ returns-3 c =
     let c13 = c12 .before in
     let c17 = c13 .before .before .before .before in
     let a = c17 .args in
-    float-row (now (a .m)) (a .modes) (a .key) (now (a .work)) (a .c) (a .n) (c13 .is-bare .ensures) (not-false _ (c12 .if1 .left)) (c10 .take-bytes .ensures .0) (c6 .r2 .given .1)
-    ((subst (λ (p : Part). PartIn (now (a .m)) 8 p) (c6 .r2 .given .1) (c10 .take-bytes .ensures .1)) .0) (c3 .word-at .ensures) (c2 .row .ensures)
+    float-row (now (a .m)) (a .modes) (a .key) (now (a .work)) (a .c) (a .n) (c13 .is-bare .ensures) (not-false _ (c12 .if1 .left)) (c10 .take-bytes .ensures .0) (c6 .r .given .1)
+    ((subst (λ (p : Part). PartIn (now (a .m)) 8 p) (c6 .r .given .1) (c10 .take-bytes .ensures .1)) .0) (c3 .word-at .ensures) (c2 .row .ensures)
 
 pub float64-spec : {M : Type 1} → statement M
 float64-spec =
@@ -77,11 +80,12 @@ float64-spec =
     returns
     take-bytes-requires
     enum-known-r
-    enum-known-r-2
-    word-at-requires
-    row-requires
+    enum-told
+    refusal-requires
     same-length
     returns-2
+    word-at-requires
+    row-requires
     same-length-2
     same-length-3
     returns-3)

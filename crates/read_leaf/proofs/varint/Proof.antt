@@ -25,14 +25,11 @@ take-number-requires c κs = search needs
 enum-known-r : tie.Need-enum-known-r
 enum-known-r c = search needs
 
-enum-known-r-2 : tie.Need-enum-known-r-2
-enum-known-r-2 c = search needs
+enum-told : tie.Need-enum-told
+enum-told c = search needs
 
-word-of-requires : tie.Need-word-of-requires
-word-of-requires c κs = search needs
-
-row-requires : tie.Need-row-requires
-row-requires c κs = search needs
+refusal-requires : tie.Need-refusal-requires
+refusal-requires c κs = search needs
 
 same-length : tie.Need-same-length
 same-length c = search needs
@@ -44,7 +41,13 @@ returns-2 c =
     let c8 = c7 .before in
     let c12 = c8 .before .before .before .before in
     let a = c12 .args in
-    varint-not (now (a .m)) (a .modes) (a .key) (now (a .work)) (a .c) (a .n) (c8 .is-bare .ensures) (not-false _ (c7 .if1 .left)) (c5 .take-number .ensures) (c .before .r .given .1)
+    varint-not (now (a .m)) (a .modes) (a .key) (now (a .work)) (a .c) (a .n) (c8 .is-bare .ensures) (not-false _ (c7 .if1 .left)) (c5 .take-number .ensures) (c .before .enum-told .given .1) (c .refusal .ensures)
+
+word-of-requires : tie.Need-word-of-requires
+word-of-requires c κs = search needs
+
+row-requires : tie.Need-row-requires
+row-requires c κs = search needs
 
 same-length-2 : tie.Need-same-length-2
 same-length-2 c = search needs
@@ -63,8 +66,8 @@ returns-3 c =
     let c13 = c12 .before in
     let c17 = c13 .before .before .before .before in
     let a = c17 .args in
-    varint-row (now (a .m)) (a .modes) (a .key) (now (a .work)) (a .c) (a .n) (c13 .is-bare .ensures) (not-false _ (c12 .if1 .left)) (c10 .take-number .ensures) (c6 .r2 .given .1)
-    (c3 .word-of .ensures ∙ ap word (toZ-ofZ w64 _ (record { sfits = c5 .known-told2 .given .0 .1 }))) (c2 .row .ensures)
+    varint-row (now (a .m)) (a .modes) (a .key) (now (a .work)) (a .c) (a .n) (c13 .is-bare .ensures) (not-false _ (c12 .if1 .left)) (c10 .take-number .ensures) (c6 .r .given .1)
+    (c3 .word-of .ensures ∙ ap word (toZ-ofZ w64 _ (record { sfits = c5 .known-told .given .0 .1 }))) (c2 .row .ensures)
 
 pub varint-spec : {M : Type 1} → statement M
 varint-spec =
@@ -74,11 +77,12 @@ varint-spec =
     returns
     take-number-requires
     enum-known-r
-    enum-known-r-2
-    word-of-requires
-    row-requires
+    enum-told
+    refusal-requires
     same-length
     returns-2
+    word-of-requires
+    row-requires
     same-length-2
     same-length-3
     returns-3)

@@ -48,7 +48,7 @@ same-length c = search needs
 returns : tie.Need-returns
 returns c =
     let s = c .before .before .before .before .before .before .before .before .before .before .before .before .before in
-    add-is (now (s .args .work)) (s .pre .0) (s .args .key) (s .pre .1) (s .pre .2) (c .before .before .before .before .before .before .before .before .before .before .count .ensures .0) (c .before .before .before .before .before .before .before .before .next-page .ensures) (c .before .before .before .before .before .before .wide .ensures .0) (c .before .before .before .before .before .pages .ensures) (c .before .before .before .before .pages2 .ensures) (c .before .before .write .ensures)
+    (add-is (now (s .args .work)) (s .pre .0) (s .args .key) (s .pre .1) (s .pre .2) (c .before .before .before .before .before .before .before .before .before .before .count .ensures .0) (c .before .before .before .before .before .before .before .before .next-page .ensures) (c .before .before .before .before .before .before .wide .ensures .0) (c .before .before .before .before .before .pages .ensures) (c .before .before .before .before .pages2 .ensures) (c .before .before .write .ensures), record { at = c .before .before .write .ensures .between })
 
 pub add-spec : {M : Type 1} → statement M
 add-spec =

@@ -1,7 +1,7 @@
 -- `read_walk::block` meets its contract.
 use native.Mathlib.Omega.{arith}
 use denote.Ref.{now}
-use Rattle.read_walk.proofs.Values.{block-does}
+use Rattle.read_walk.proofs.Steps.{block-does}
 use borrow.Author.Needs.{needs}
 use Rattle.read_walk.proofs.block.Statement.{statement}
 use Rattle.read_walk.proofs.block.Tie as tie

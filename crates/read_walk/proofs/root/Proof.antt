@@ -1,12 +1,12 @@
--- `read_walk::root` meets its contract: a run of one entry.
+-- `read_walk::root` meets its contract: one entry.
 use borrow.Author.Needs.{needs}
-use Rattle.read_walk.proofs.Runs.{one-entry}
+use Rattle.read_walk.proofs.Several.{one-entry}
 use Rattle.wire_types.specs.Run.{run-entries}
 use Rattle.read_walk.proofs.root.Statement.{statement}
 use Rattle.read_walk.proofs.root.Tie as tie
 
-run-requires : tie.Need-run-requires
-run-requires c κs =
+values-requires : tie.Need-values-requires
+values-requires c κs =
     let c6 = c .before .before .before .before .before .before in
     (c6 .pre .0, c6 .pre .1, c6 .pre .2, run-entries (c6 .pre .3))
 
@@ -19,7 +19,7 @@ same-length-2 c = search needs
 returns : tie.Need-returns
 returns c =
     let c4 = c .before .before .before .before in
-    one-entry (c4 .run .ensures)
+    one-entry (c4 .values .ensures)
 
 pub root-spec : {M : Type 1} → statement M
-root-spec = tie.close (tie.spec run-requires same-length same-length-2 returns)
+root-spec = tie.close (tie.spec values-requires same-length same-length-2 returns)

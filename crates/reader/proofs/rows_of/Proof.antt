@@ -69,7 +69,7 @@ returns-3 c =
     let c12 = c11 .before in
     let c17 = c12 .before .before .before .before .before in
     let a = c17 .args in
-    rows-22 (now (a .table)) (now (a .m)) (now (a .work)) (now (a .rows)) (c17 .pre) _ (c12 .is-sized .ensures) (c11 .if1 .left) _ (c9 .read-header .ensures) (c7 .modes .given .1) _ (c4 .begin .ensures) (c .enum-told2 .given .1)
+    rows-22 (now (a .table)) (now (a .m)) (now (a .work)) (now (a .rows)) (c17 .pre) _ (c12 .is-sized .ensures) (c11 .if1 .left) _ (c9 .read-header .ensures) (c7 .modes .given .1) _ (c4 .begin .ensures) (c4 .begin .kept .1 .0) (c .enum-told2 .given .1)
 
 root-requires : tie.Need-root-requires
 root-requires c κs =
@@ -81,7 +81,7 @@ root-requires c κs =
     let c15 = c14 .before in
     let c20 = c15 .before .before .before .before .before in
     let a = c20 .args in
-    root-ready (now (a .table)) (now (a .m)) (now (a .work)) (now (a .rows)) (c20 .pre) _ (c15 .is-sized .ensures) (c14 .if1 .left) _ (c12 .read-header .ensures) (c10 .modes .given .1) _ (c7 .begin .ensures) (c3 .core .given .1)
+    root-ready (now (a .table)) (now (a .m)) (now (a .work)) (now (a .rows)) (c20 .pre) _ (c15 .is-sized .ensures) (c14 .if1 .left) _ (c12 .read-header .ensures) (c10 .modes .given .1) _ (c7 .begin .ensures) (c7 .begin .kept .1 .0) (c3 .core .given .1)
 
 enum-known-r : tie.Need-enum-known-r
 enum-known-r c = search needs
@@ -106,7 +106,7 @@ returns-4 c =
     let c22 = c21 .before in
     let c27 = c22 .before .before .before .before .before in
     let a = c27 .args in
-    rows-gone (now (a .table)) (now (a .m)) (now (a .work)) (now (a .rows)) (c27 .pre) _ (c22 .is-sized .ensures) (c21 .if1 .left) _ (c19 .read-header .ensures) (c17 .modes .given .1) _ (c14 .begin .ensures) (c10 .core .given .1) _ (c6 .root .ensures) (c .enum-told3 .given .1)
+    rows-gone (now (a .table)) (now (a .m)) (now (a .work)) (now (a .rows)) (c27 .pre) _ (c22 .is-sized .ensures) (c21 .if1 .left) _ (c19 .read-header .ensures) (c17 .modes .given .1) _ (c14 .begin .ensures) (c14 .begin .kept .1 .0) (c10 .core .given .1) _ (c6 .root .ensures) (c6 .root .kept .1 .1 .1 .0) (c .enum-told3 .given .1)
 
 is-done-requires : tie.Need-is-done-requires
 is-done-requires c κs =
@@ -120,7 +120,7 @@ is-done-requires c κs =
     let c24 = c23 .before in
     let c29 = c24 .before .before .before .before .before in
     let a = c29 .args in
-    end-ready (now (a .table)) (now (a .m)) (now (a .work)) (now (a .rows)) (c29 .pre) _ (c24 .is-sized .ensures) (c23 .if1 .left) _ (c21 .read-header .ensures) (c19 .modes .given .1) _ (c16 .begin .ensures) (c12 .core .given .1) _ (c8 .root .ensures) (c2 .r .given .1) .good
+    end-ready (now (a .table)) (now (a .m)) (now (a .work)) (now (a .rows)) (c29 .pre) _ (c24 .is-sized .ensures) (c23 .if1 .left) _ (c21 .read-header .ensures) (c19 .modes .given .1) _ (c16 .begin .ensures) (c16 .begin .kept .1 .0) (c12 .core .given .1) _ (c8 .root .ensures) (c8 .root .kept .1 .1 .1 .0) (c2 .r .given .1) .good
 
 same-length-4 : tie.Need-same-length-4
 same-length-4 c = search needs
@@ -141,7 +141,7 @@ returns-5 c =
     let c26 = c25 .before in
     let c31 = c26 .before .before .before .before .before in
     let a = c31 .args in
-    rows-30 (now (a .table)) (now (a .m)) (now (a .work)) (now (a .rows)) (c31 .pre) _ (c26 .is-sized .ensures) (c25 .if1 .left) _ (c23 .read-header .ensures) (c21 .modes .given .1) _ (c18 .begin .ensures) (c14 .core .given .1) _ (c10 .root .ensures) (c4 .r .given .1) _ (c1 .is-done .ensures) (c .if2 .taken)
+    rows-30 (now (a .table)) (now (a .m)) (now (a .work)) (now (a .rows)) (c31 .pre) _ (c26 .is-sized .ensures) (c25 .if1 .left) _ (c23 .read-header .ensures) (c21 .modes .given .1) _ (c18 .begin .ensures) (c18 .begin .kept .1 .0) (c14 .core .given .1) _ (c10 .root .ensures) (c10 .root .kept .1 .1 .1 .0) (c4 .r .given .1) _ (c1 .is-done .ensures) (c .if2 .taken)
 
 same-length-6 : tie.Need-same-length-6
 same-length-6 c = search needs
@@ -162,7 +162,7 @@ returns-6 c =
     let c26 = c25 .before in
     let c31 = c26 .before .before .before .before .before in
     let a = c31 .args in
-    rows-are (now (a .table)) (now (a .m)) (now (a .work)) (now (a .rows)) (c31 .pre) _ (c26 .is-sized .ensures) (c25 .if1 .left) _ (c23 .read-header .ensures) (c21 .modes .given .1) _ (c18 .begin .ensures) (c14 .core .given .1) _ (c10 .root .ensures) (c4 .r .given .1) _ (c1 .is-done .ensures) (c .if2 .left)
+    rows-are (now (a .table)) (now (a .m)) (now (a .work)) (now (a .rows)) (c31 .pre) _ (c26 .is-sized .ensures) (c25 .if1 .left) _ (c23 .read-header .ensures) (c21 .modes .given .1) _ (c18 .begin .ensures) (c18 .begin .kept .1 .0) (c14 .core .given .1) _ (c10 .root .ensures) (c10 .root .kept .1 .1 .1 .0) (c4 .r .given .1) _ (c1 .is-done .ensures) (c .if2 .left)
 
 pub rows-of-spec : {M : Type 1} → statement M
 rows-of-spec =

@@ -6,7 +6,7 @@ use mir.ValLaws.{toZ-ofZ}
 use borrow.Author.Needs.{needs}
 use Rattle.format.specs.Read.{inMessage, readNumber}
 use Rattle.read_leaf.proofs.Blocks.{inside-small, block-none, block-not, block-takes, opened-inside, opened-good, takes-number}
-use Rattle.read_leaf.proofs.Reading.{number-got, number-bad, number-inside}
+use Rattle.read_leaf.proofs.Reading.{number-got, number-bad, number-later, number-inside}
 use Rattle.read_leaf.proofs.block.block_number.Statement.{statement}
 use Rattle.read_leaf.proofs.block.block_number.Tie as tie
 
@@ -88,7 +88,7 @@ returns-3 c =
     let e = sym (c7 .label-in .ensures) ∙ v .1 in
     let (j, z) = number-inside (now (a .m)) p i _ _ e in
     takes-number _ (toZ-ofZ w64 _ (record { sfits = c4 .known-told2 .given .0 .1 }))
-    (block-takes (now (a .m)) (a .key) f (a .c) (c13 .block-of .ensures) (c17 .pre .2) (v .0 .0) (v .0 .1 .0) (c9 .block .given .1) (number-got (now (a .m)) p i _ _ e) z j (c2 .advance .ensures))
+    (block-takes (now (a .m)) (a .key) f (a .c) (c13 .block-of .ensures) (c17 .pre .2) (v .0 .0) (v .0 .1 .0) (c9 .block .given .1) (number-got (now (a .m)) p i _ _ e) z (number-later (now (a .m)) p i _ _ e) j (c2 .advance .ensures))
 
 pub block-number-spec : {M : Type 1} → statement M
 block-number-spec =

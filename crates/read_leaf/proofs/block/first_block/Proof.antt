@@ -1,7 +1,7 @@
 -- `read_leaf::block::first_block` meets its contract: the first of those that wait, if there is one. Assumes nothing.
-use borrow.Author.Needs.{needs}
 use Rattle.read_literals.specs.Words.{storeOf}
 use Rattle.read_leaf.proofs.Blocks.{inside-small, rest-blocks, gave-none, gave-left, gave-first}
+use borrow.Author.Needs.{needs}
 use Rattle.read_leaf.proofs.block.first_block.Statement.{statement}
 use Rattle.read_leaf.proofs.block.first_block.Tie as tie
 
@@ -36,21 +36,27 @@ touch-requires c κs =
     let c2 = c .before .before in
     let c4 = c2 .before .before in
     let c9 = c4 .before .before .before .before .before in
-    let a = c9 .args in
     let i = gave-left (c4 .next-block .ensures) (c2 .block .given .1) .0 in
     let (l, h) = inside-small (c9 .pre .0 .small) i in
     (c9 .pre .0 .good .slots, c9 .pre .1, c9 .pre .2, l, h)
 
-set-rest-requires : tie.Need-set-rest-requires
-set-rest-requires c κs =
+move-rest-requires : tie.Need-move-rest-requires
+move-rest-requires c κs =
     let c3 = c .before .before .before in
     let c6 = c3 .before .before .before in
     let c8 = c6 .before .before in
-    let c9 = c8 .before in
-    let c13 = c9 .before .before .before .before in
-    let a = c13 .args in
+    let c13 = c8 .before .before .before .before .before in
     let i = gave-left (c8 .next-block .ensures) (c6 .block .given .1) .0 in
-    (c3 .touch .ensures .good, inside-small (c13 .pre .0 .small) i .1, c9 .rest .ensures .1 .1)
+    (c3 .touch .ensures .good, inside-small (c13 .pre .0 .small) i .1)
+
+set-start-requires : tie.Need-set-start-requires
+set-start-requires c κs =
+    let c3 = c .before .before .before in
+    let c10 = c3 .before .before .before .before .before .before .before in
+    let c12 = c10 .before .before in
+    let c17 = c12 .before .before .before .before .before in
+    let i = gave-left (c12 .next-block .ensures) (c10 .block .given .1) .0 in
+    (c3 .move-rest .ensures .good .whole, c17 .pre .1, inside-small (c17 .pre .0 .small) i .0)
 
 same-length-2 : tie.Need-same-length-2
 same-length-2 c = search needs
@@ -59,12 +65,13 @@ returns-2 : tie.Need-returns-2
 returns-2 c =
     let c2 = c .before .before in
     let c6 = c2 .before .before .before .before in
-    let c9 = c6 .before .before .before in
-    let c11 = c9 .before .before in
-    let c12 = c11 .before in
-    let c16 = c12 .before .before .before .before in
-    let a = c16 .args in
-    gave-first (c12 .rest .ensures .0) (a .key) (c16 .pre .2) (c11 .next-block .ensures) (c9 .block .given .1) (c16 .pre .0) (c6 .touch .ensures) (c2 .set-rest .ensures)
+    let c10 = c6 .before .before .before .before in
+    let c13 = c10 .before .before .before in
+    let c15 = c13 .before .before in
+    let c16 = c15 .before in
+    let c20 = c16 .before .before .before .before in
+    let a = c20 .args in
+    gave-first (c16 .rest .ensures .0) (a .key) (c20 .pre .2) (c15 .next-block .ensures) (c13 .block .given .1) (c20 .pre .1) (c20 .pre .0) (c10 .touch .ensures) (c6 .move-rest .ensures) (c2 .set-start .ensures)
 
 pub first-block-spec : {M : Type 1} → statement M
 first-block-spec =
@@ -77,6 +84,7 @@ first-block-spec =
     same-length
     returns
     touch-requires
-    set-rest-requires
+    move-rest-requires
+    set-start-requires
     same-length-2
     returns-2)

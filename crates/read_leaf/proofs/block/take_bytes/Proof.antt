@@ -1,15 +1,15 @@
--- `read_leaf::block::take_bytes` meets its contract: in the block, or in the core. Assumes nothing.
+-- `read_leaf::block::take_bytes` meets its contract. Assumes nothing.
 use mathlib.Core.Path.{refl, sym, _∙_}
-use Prim.Native.Nat.{_+_}
+use Prim.Native.Nat.{_+_, _-_, _<_, _≤_}
 use native.Mathlib.Omega.{arith}
 use denote.Ref.{now}
 use borrow.Author.Tests.{not-true, not-false}
-use borrow.Author.Needs.{needs}
 use Rattle.format.specs.Read.{inMessage, readBytes}
 use Rattle.label.specs.Cursor.{cursor}
 use Rattle.read_pieces.specs.Pieces.{Inside}
 use Rattle.read_leaf.proofs.Blocks.{core-takes, core-not, takes-in}
 use Rattle.read_leaf.proofs.Reading.{bytes-got, bytes-not}
+use borrow.Author.Needs.{needs}
 use Rattle.read_leaf.proofs.block.take_bytes.Statement.{statement}
 use Rattle.read_leaf.proofs.block.take_bytes.Tie as tie
 
@@ -32,16 +32,18 @@ returns c =
     let f = readBytes (inMessage (now (a .m))) (a .size) in
     (takes-in (a .key) f (sym (not-true _ (c4 .if1 .taken)) ∙ c5 .is-inline .ensures) (c2 .block-bytes .ensures .0), c2 .block-bytes .ensures .1)
 
-sub-if2 : tie.Need-sub-if2
-sub-if2 c = search needs
+left-in-requires : tie.Need-left-in-requires
+left-in-requires c κs = search needs
 
 returns-2 : tie.Need-returns-2
 returns-2 c =
     let c2 = c .before .before in
-    let c5 = c2 .before .before .before in
-    let a = c5 .args in
+    let c3 = c2 .before in
+    let c6 = c3 .before .before .before in
+    let a = c6 .args in
     let f = readBytes (inMessage (now (a .m))) (a .size) in
-    (takes-in (a .key) f (sym (not-false _ (c .before .if1 .left)) ∙ c2 .is-inline .ensures) (core-not (now (a .m)) (a .key) f (a .c) (now (a .work)) 27 (bytes-not (now (a .m)) (a .c) (c5 .pre .2) (a .size) (c .if2 .taken))), tt)
+    let h : a .c .end - a .c .at < a .size = omega (arith, c .before .left-in .ensures, c .if2 .taken) in
+    (takes-in (a .key) f (sym (not-false _ (c2 .if1 .left)) ∙ c3 .is-inline .ensures) (core-not (now (a .m)) (a .key) f (a .c) (now (a .work)) 27 (bytes-not (now (a .m)) (a .c) (c6 .pre .2) (a .size) h)), tt)
 
 add-t14 : tie.Need-add-t14
 add-t14 c = search needs
@@ -49,13 +51,14 @@ add-t14 c = search needs
 returns-3 : tie.Need-returns-3
 returns-3 c =
     let c2 = c .before .before in
-    let c5 = c2 .before .before .before in
-    let a = c5 .args in
+    let c3 = c2 .before in
+    let c6 = c3 .before .before .before in
+    let a = c6 .args in
     let f = readBytes (inMessage (now (a .m))) (a .size) in
-    let i = c5 .pre .2 in
-    let h = c .if2 .left in
+    let i = c6 .pre .2 in
+    let h : a .size ≤ a .c .end - a .c .at = omega (arith, c .before .left-in .ensures, c .if2 .left) in
     let next : Inside (now (a .m)) (cursor (a .c .at + a .size) (a .c .end)) = record { ordered = omega (arith, i .ordered, h); inside = i .inside } in
-    (takes-in (a .key) f (sym (not-false _ (c .before .if1 .left)) ∙ c2 .is-inline .ensures) (core-takes (now (a .m)) (a .key) f (a .c) (now (a .work)) _ _ (c5 .pre .0) next (bytes-got (now (a .m)) (a .c) i (a .size) h)), (refl, omega (arith, i .ordered, i .inside, h)))
+    (takes-in (a .key) f (sym (not-false _ (c2 .if1 .left)) ∙ c3 .is-inline .ensures) (core-takes (now (a .m)) (a .key) f (a .c) (now (a .work)) _ _ (c6 .pre .0) next (bytes-got (now (a .m)) (a .c) i (a .size) h)), (refl, omega (arith, i .ordered, i .inside, h)))
 
 pub take-bytes-spec : {M : Type 1} → statement M
 take-bytes-spec =
@@ -65,7 +68,7 @@ take-bytes-spec =
     block-bytes-requires
     same-length
     returns
-    sub-if2
+    left-in-requires
     returns-2
     add-t14
     returns-3)

@@ -117,7 +117,7 @@ returns-5 c =
     let c20 = c16 .before .before .before .before in
     let a = c20 .args in
     literal-noted (now (a .m)) (a .modes) (a .key) (heldOf (a .leaf) (a .dedup)) (a .size) (a .c) (c16 .take-bytes .ensures .0) (ap partOf (c12 .taken .given .1)) (c10 .is-right .ensures)
-    (not-false _ (c9 .if1 .left)) (c8 .is-numbered .ensures .is (heldLeaf (a .leaf))) (not-false _ (c7 .if2 .left)) (omega (arith, c5 .total .ensures .0, c4 .if3 .left)) (c2 .add .ensures)
+    (not-false _ (c9 .if1 .left)) (c8 .is-numbered .ensures .is (heldLeaf (a .leaf))) (not-false _ (c7 .if2 .left)) (omega (arith, c5 .total .ensures .0, c4 .if3 .left)) (c2 .add .ensures .0) (c2 .add .ensures .1)
 
 pub literal-spec : {M : Type 1} → statement M
 literal-spec =

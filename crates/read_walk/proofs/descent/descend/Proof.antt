@@ -8,6 +8,7 @@ use borrow.Author.Tests.{not-true, not-false}
 use Rattle.wire_types.specs.Nodes.{node-inside}
 use Rattle.read_walk.specs.Descent.{Comes}
 use Rattle.read_walk.proofs.Descents.{holder-is, holder-fits, holder-ends, holder-comes, comes-self, comes-then, comes-ends, comes-when, comes-typed, typed-inside}
+use borrow.Author.Needs.{needs}
 use Rattle.read_walk.proofs.descent.descend.Statement.{statement}
 use Rattle.read_walk.proofs.descent.descend.Tie as tie
 
@@ -46,30 +47,34 @@ returns c =
     let c4 = c3 .before in
     comes-when (c4 .loop .inv .1) (not-true _ (c3 .loop-test .taken))
 
-push-requires : tie.Need-push-requires Inv-loop μ-loop
-push-requires c κs = search needs
+push-row-requires : tie.Need-push-row-requires Inv-loop μ-loop
+push-row-requires c κs = search needs
 
-enum-known-written : tie.Need-enum-known-written Inv-loop μ-loop
-enum-known-written c = search needs
+enum-known-p : tie.Need-enum-known-p Inv-loop μ-loop
+enum-known-p c = search needs
 
 enum-told-2 : tie.Need-enum-told-2 Inv-loop μ-loop
 enum-told-2 c = search needs
 
+refusal-requires : tie.Need-refusal-requires Inv-loop μ-loop
+refusal-requires c κs = search needs
+
 same-length-2 : tie.Need-same-length-2 Inv-loop μ-loop
 same-length-2 c =
-    let c4 = c .before .before .before .before in
-    let c11 = c4 .before .before .before .before .before .before .before in
-    c4 .push .kept .0 ∙ c11 .loop .inv .0
+    let c5 = c .before .before .before .before .before in
+    let c12 = c5 .before .before .before .before .before .before .before in
+    c5 .push-row .kept .0 ∙ c12 .loop .inv .0
 
 returns-2 : tie.Need-returns-2 Inv-loop μ-loop
 returns-2 c =
-    let c4 = c .before .before .before .before in
-    let c7 = c4 .before .before .before in
-    let c9 = c7 .before .before in
-    let c10 = c9 .before in
+    let c1 = c .before in
+    let c5 = c1 .before .before .before .before in
+    let c8 = c5 .before .before .before in
+    let c10 = c8 .before .before in
     let c11 = c10 .before in
-    let x = c11 .loop .inv .1 in
-    comes-ends x (holder-ends (c4 .push .ensures .0) (holder-is (c9 .holds-one .ensures) (c7 .h .given .1)) (x .inside) (not-true _ (c10 .loop-test .taken)) (c .enum-told2 .given .1))
+    let c12 = c11 .before in
+    let x = c12 .loop .inv .1 in
+    comes-ends x (holder-ends (holder-is (c10 .holds-one .ensures) (c8 .h .given .1)) (c5 .push-row .ensures .0) (x .inside) (not-true _ (c11 .loop-test .taken)) (c1 .enum-told2 .given .1) (c .refusal .ensures))
 
 add-at : tie.Need-add-at Inv-loop μ-loop
 add-at c =
@@ -93,8 +98,7 @@ may-be-absent-requires c κs =
     let c16 = c12 .before .before .before .before in
     let x = c12 .loop .inv .1 in
     let t = comes-typed x (c16 .pre .2) in
-    let h = holder-is (c10 .holds-one .ensures) (c8 .h .given .1) in
-    node-inside _ _ _ _ (holder-fits h (t .fits)) (c16 .pre .1) .1
+    node-inside _ _ _ _ (holder-fits (holder-is (c10 .holds-one .ensures) (c8 .h .given .1)) (t .fits)) (c16 .pre .1) .1
 
 loop-less : tie.Need-loop-less Inv-loop μ-loop
 loop-less c =
@@ -114,14 +118,17 @@ loop-again c =
     let c17 = c13 .before .before .before .before in
     let x = c13 .loop .inv .1 in
     let t = comes-typed x (c17 .pre .2) in
-    let h = holder-is (c11 .holds-one .ensures) (c9 .h .given .1) in
-    (c6 .push .kept .0 ∙ c13 .loop .inv .0, comes-then x (holder-comes (c6 .push .ensures .0) h (x .inside) t (not-true _ (c12 .loop-test .taken)) (c6 .push .ensures .1) (c2 .written .given .1) (c6 .push .kept .0) (c .may-be-absent .ensures)))
+    (c6 .push-row .kept .0 ∙ c13 .loop .inv .0, comes-then x (holder-comes (holder-is (c11 .holds-one .ensures) (c9 .h .given .1)) (c6 .push-row .ensures .0) (x .inside) t (typed-inside t (c17 .pre .1) .2) (not-true _ (c12 .loop-test .taken)) (c2 .p .given .1) (c6 .push-row .ensures .1) (c6 .push-row .kept .0) (c .may-be-absent .ensures)))
 
 same-length-3 : tie.Need-same-length-3 Inv-loop μ-loop
-same-length-3 c = c .before .loop .inv .0
+same-length-3 c =
+    let c1 = c .before in
+    c1 .loop .inv .0
 
 returns-3 : tie.Need-returns-3 Inv-loop μ-loop
-returns-3 c = comes-when (c .before .loop .inv .1) (not-false _ (c .loop-test .left))
+returns-3 c =
+    let c1 = c .before in
+    comes-when (c1 .loop .inv .1) (not-false _ (c .loop-test .left))
 
 pub descend-spec : {M : Type 1} → statement M
 descend-spec =
@@ -135,9 +142,10 @@ descend-spec =
     enum-told
     same-length
     returns
-    push-requires
-    enum-known-written
+    push-row-requires
+    enum-known-p
     enum-told-2
+    refusal-requires
     same-length-2
     returns-2
     add-at

@@ -20,7 +20,7 @@ returns-2 : tie.Need-returns-2
 returns-2 c =
     let c1 = c .before in
     let a = c1 .args in
-    null-none (a .modes) (a .l) (a .nullable) (c .if1 .left)
+    null-none (a .modes) (a .l) _ (toZ-ofZ w64 (a .l) (c1 .fits .l)) (a .nullable) (c .if1 .left)
 
 pub null-or-spec : {M : Type 1} → statement M
 null-or-spec = tie.close (tie.spec null-label-requires returns returns-2)

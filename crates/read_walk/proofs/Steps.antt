@@ -35,9 +35,11 @@ use Rattle.read_leaf.specs.Held.{held-walks}
 use Rattle.read_leaf.specs.Contracts.{Owns, Bare, PutsRow, Boolean}
 use Rattle.store.specs.Words.{word}
 use Rattle.wire_types.specs.Typed.{heldIn, IsNode, IsWire, FitsNode, FitsWire, FitFields, isNullable, below}
-use Rattle.wire_types.specs.Nodes.{nullable-is, wire-of, fits-wire, fits-fields}
+use Rattle.wire_types.specs.Nodes.{nullable-is, wire-of, fits-fields}
+use Rattle.wire_types.specs.Path.{pathBelow, path-less, fits-own}
 use Rattle.read_walk.specs.declared.opening.Opening as opening
-use Rattle.read_walk.specs.Opening.{opened, openedOf, Opens, rest, valueAt}
+use Rattle.read_walk.specs.declared.opening.Seen as seen
+use Rattle.read_walk.specs.Opening.{opened, openedOf, refusalOf, Opens, rest, valueAt}
 use Rattle.read_walk.specs.Walk.{ReadsValue, ReadsWire, ReadsFields, ReadsEntries}
 use Rattle.read_walk.proofs.Opens.{onward, value-opens}
 
@@ -55,16 +57,20 @@ module _ (table m w l : List ℕ) (modes node n : ℕ) (o z : Bool) (c : Cursor)
         along (value-opens m modes (heldIn table) o v _ ∙ ap (λ y. opened m modes o y (stateOf m (mostRows (length l)) w c n) >>= onward m modes (heldIn table) v) q) (f v h q);
   }
 
-  pub value-refused : {w′ l′ : List ℕ} {k : ℕ} → x ≡ opening.the-variants.Refused k → ReadsValue m w w′ l l′ c n (Refused k) table modes node o
-  value-refused q = value-by (λ v h t. then-refuses _ (d .takes w ready .took (mostRows (length l)) n) (onward m modes (heldIn table) v) (ap openedOf q))
+  pub value-refused : {l′ : List ℕ} {e k : ℕ} → x ≡ opening.the-variants.Refused e → k ≡ refusalOf x → ReadsValue m w w l l′ c n (Refused k) table modes node o
+  value-refused {k = k} q u = value-by (λ v h t. then-refuses _ (d .takes w ready .took (mostRows (length l)) n) (onward m modes (heldIn table) v) (ap openedOf (q ∙ ap opening.the-variants.Refused (sym (u ∙ ap refusalOf q)))))
 
-  pub value-gone : {l′ : List ℕ} {r : Step} {kind : ℕ} {next : Cursor} → x ≡ opening.the-variants.Gone kind next → PutsRow n (kind ∷ 0 ∷ 0 ∷ []) next l l′ r → ReadsValue m w w l l′ c n r table modes node o
+  pub value-gone : {l′ : List ℕ} {r : Step} {y : seen.Seen} {kind : ℕ} {next : Cursor} → x ≡ opening.the-variants.Read y next → y ≡ seen.the-variants.Gone kind → PutsRow n (kind ∷ 0 ∷ 0 ∷ []) next l l′ r → ReadsValue m w w l l′ c n r table modes node o
   unfolding rest rowWords
-  value-gone {kind = kind} q y = value-by (λ v h t.
+  value-gone {kind = kind} {next} q u y = value-by (λ v h t.
       let k = d .takes w ready .took (mostRows (length l)) n in
-      then-does _ k (onward m modes (heldIn table) v) (ap openedOf q) (y .does m w (bare kind 0) refl ready (took-inside _ k (ap openedOf q))))
+      let e = ap openedOf (q ∙ ap (λ a. opening.the-variants.Read a next) u) in
+      then-does _ k (onward m modes (heldIn table) v) e (y .does m w (bare kind 0) refl ready (took-inside _ k e)))
 
-  module _ {front : Front} {next : Cursor} (q : x ≡ opening.the-variants.Here front next) where
+  module _ {front : Front} {next : Cursor} {y : seen.Seen} (p : x ≡ opening.the-variants.Read y next) (p₁ : y ≡ seen.the-variants.Here front) where
+    q : x ≡ opening.the-variants.Read (seen.the-variants.Here front) next
+    q = p ∙ ap (λ a. opening.the-variants.Read a next) p₁
+
     pub value-here : {w′ l′ : List ℕ} {r : Step} {i : ℕ} → i ≡ below z node → ReadsWire m w w′ l l′ next n r table modes i (frontOf front) → ReadsValue m w w′ l l′ c n r table modes node o
     unfolding rest
     value-here u y = value-by (λ v h t.
@@ -74,8 +80,11 @@ module _ (table m w l : List ℕ) (modes node n : ℕ) (o z : Bool) (c : Cursor)
     pub opened-inside : Inside m next
     opened-inside = took-inside _ (d .takes w ready .took 0 0) (ap openedOf q)
 
-pub value-fits : (table w : List ℕ) (left node i : ℕ) (z : Bool) → z ≡ eqb (nodeAt table node .kind) NULLABLE → i ≡ below z node → FitsNode table w left node → FitsWire table w left i
-value-fits table w left node i z e u f = rw u (fits-wire table w left node z e f)
+pub value-fits : (table w : List ℕ) (left node i path : ℕ) (z : Bool) → z ≡ eqb (nodeAt table node .kind) NULLABLE → i ≡ below z node → path ≡ pathBelow z left → FitsNode table w left node → FitsWire table w path i
+value-fits table w left node i path z e u q f = rw (u, q) (fits-own table w left node z e f)
+
+pub value-less : (left : ℕ) {path : ℕ} {z b : Bool} → z ≡ b → path ≡ pathBelow z left → path ≤ left
+value-less left {z = z} e q = rw q (path-less z left)
 
 -- ---- a record
 
@@ -92,12 +101,12 @@ module _ (table m w l : List ℕ) (modes node n : ℕ) (front : Front) (c : Curs
         (λ ws t a g. along (ap (λ y. y >> (takeRow (inMessage m) (stateOf m (mostRows (length l)) w c n) >>= (λ s. all (inMessage m) modes (heldIn table) ws s >>= (λ y. ok (bare recordRow (fieldCount ws) ∷ y .0, y .1))))) (x .is m)) (f ws a g));
   }
 
-  pub record-24 : {w′ l′ : List ℕ} → not b ≡ true → ReadsWire m w w′ l l′ c n (Refused 24) table modes node (frontOf front)
+  pub record-24 : {l′ : List ℕ} → not b ≡ true → ReadsWire m w w l l′ c n (Refused 24) table modes node (frontOf front)
   unfolding needAt _>>_
   record-24 e = record-by (λ ws a g. rw (not-true b e) (refuses 24))
 
   module _ (e : not b ≡ false) (q : Put) (h : q ≡ putOf (mostRows (length l)) n) where
-    pub record-31 : {w′ l′ : List ℕ} → q ≡ Full → ReadsWire m w w′ l l′ c n (Refused 31) table modes node (frontOf front)
+    pub record-31 : {l′ : List ℕ} → q ≡ Full → ReadsWire m w w l l′ c n (Refused 31) table modes node (frontOf front)
     unfolding needAt _>>_
     record-31 z = record-by (λ ws a g. rw (not-false b e) (push-not c _ h z))
 
@@ -129,11 +138,11 @@ module _ (table m w l : List ℕ) (modes node n : ℕ) (front : Front) (c : Curs
         by-array _ _ _ _ (λ u. Walks m w w′ c n l l′ r (wire (inMessage m) modes (heldIn table) u (frontOf front))) node v h k (λ u a g. f u g);
   }
 
-  pub array-23 : {w′ l′ : List ℕ} → t ≡ label.the-variants.Bad → ReadsWire m w w′ l l′ c n (Refused 23) table modes node (frontOf front)
+  pub array-23 : {l′ : List ℕ} → t ≡ label.the-variants.Bad → ReadsWire m w w l l′ c n (Refused 23) table modes node (frontOf front)
   array-23 q = array-by (λ v g. then-refuses _ (x .takes w ready .took (mostRows (length l)) n) (counted table m modes v) (ap labelOf q))
 
   module _ {a : ℤ} {core : Cursor} (q : t ≡ label.the-variants.Got a core) (size : Size) (s : sizeLabel size ≡ a) where
-    pub array-24 : {w′ l′ : List ℕ} {j : ℕ} → size ≡ Below j → ReadsWire m w w′ l l′ c n (Refused 24) table modes node (frontOf front)
+    pub array-24 : {l′ : List ℕ} {j : ℕ} → size ≡ Below j → ReadsWire m w w l l′ c n (Refused 24) table modes node (frontOf front)
     unfolding counted countOf _>>=_
     array-24 z = array-by (λ v g. then-does _ (x .takes w ready .took (mostRows (length l)) n) (counted table m modes v) (ap labelOf q) (rw (← s, z) (refuses 24)))
 
@@ -145,7 +154,7 @@ module _ (table m w l : List ℕ) (modes node n : ℕ) (front : Front) (c : Curs
       unfolding counted countOf _>>=_
       array-row f = array-by (λ v g. then-does _ (x .takes w ready .took (mostRows (length l)) n) (counted table m modes v) (ap labelOf q) (rw (← s, z) (f v g)))
 
-      pub array-31 : {w′ l′ : List ℕ} → p ≡ Full → ReadsWire m w w′ l l′ c n (Refused 31) table modes node (frontOf front)
+      pub array-31 : {l′ : List ℕ} → p ≡ Full → ReadsWire m w w l l′ c n (Refused 31) table modes node (frontOf front)
       array-31 j = array-row (λ v g. push-not core _ h j)
 
       pub array-then : {next : ℕ} {w′ l₁ l₂ : List ℕ} {r : Step} → l₁ ≡ putIn (mostRows (length l)) l n (10 ∷ count ∷ 0 ∷ []) → p ≡ Next next → length l₁ ≡ length l
