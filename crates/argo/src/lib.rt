@@ -7,7 +7,7 @@ ghost use Rattle.format.specs.Table.{check};
 ghost use Rattle.format.specs.Row.{bare, words as wordsOf, look};
 ghost use Rattle.format.specs.Read.{read};
 ghost use Rattle.format.specs.Write.{write};
-ghost use Rattle.writer.specs.Demands.{Answers, Accepts, RoundTrip, Shortest, NoRoom, Rewrites};
+ghost use Rattle.writer.specs.Demands.{Demands};
 ghost use Rattle.argo.specs.Exported.{Shows, Stands};
 ghost use Rattle.rows.specs.declared.Seen.the-variants.{Truth};
 ghost use Rattle.rows.specs.Seen.{seen, rightCase};
@@ -87,12 +87,7 @@ pub extern "C" fn argo_write(
     ensures { λ r. ⌜ r .second ≡ second (λ m. length m) (write (length (now (work .entry))) (now (table .entry)) modes (now (rows .entry)) (now (pool .entry)) (length (now (out .entry)))) ⌝ }
     ensures { λ r. ⌜ now (out .exit) ≡ output (λ m. m) (length (now (out .entry))) (write (length (now (work .entry))) (now (table .entry)) modes (now (rows .entry)) (now (pool .entry)) (length (now (out .entry)))) ⌝ }
     ensures { λ r. ⌜ now (work .exit) ≡ zeros (length (now (work .entry))) ⌝ }
-    ensures answers { λ r. ⌜ Answers (length (now (work .entry))) (now (table .entry)) modes (now (rows .entry)) (now (pool .entry)) (length (now (out .entry))) (r .number) (r .second) (now (out .exit)) ⌝ }
-    ensures accepts { λ r. ⌜ Accepts (length (now (work .entry))) (now (table .entry)) modes (now (rows .entry)) (now (pool .entry)) (length (now (out .entry))) (r .number) (r .second) (now (out .exit)) ⌝ }
-    ensures round_trip { λ r. ⌜ RoundTrip (length (now (work .entry))) (now (table .entry)) modes (now (rows .entry)) (now (pool .entry)) (length (now (out .entry))) (r .number) (r .second) (now (out .exit)) ⌝ }
-    ensures shortest { λ r. ⌜ Shortest (length (now (work .entry))) (now (table .entry)) modes (now (rows .entry)) (now (pool .entry)) (length (now (out .entry))) (r .number) (r .second) (now (out .exit)) ⌝ }
-    ensures no_room { λ r. ⌜ NoRoom (length (now (work .entry))) (now (table .entry)) modes (now (rows .entry)) (now (pool .entry)) (length (now (out .entry))) (r .number) (r .second) (now (out .exit)) ⌝ }
-    ensures rewrites { λ r. ⌜ Rewrites (length (now (work .entry))) (now (table .entry)) modes (now (rows .entry)) (now (pool .entry)) (length (now (out .entry))) (r .number) (r .second) (now (out .exit)) ⌝ }
+    ensures demands { λ r. ⌜ Demands (length (now (work .entry))) (now (table .entry)) modes (now (rows .entry)) (now (pool .entry)) (length (now (out .entry))) (r .number) (r .second) (now (out .exit)) ⌝ }
 {
     let r = writer::write(table, modes, rows, pool, out, work);
     Answer {

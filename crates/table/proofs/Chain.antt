@@ -15,9 +15,9 @@ use Rattle.laws.specs.Facts.{then-elim, need-true, ok-same}
 use Rattle.laws.specs.Tree.{ends, Ends}
 use Rattle.laws.specs.Built.{Built, few-keys, length-ends}
 use Rattle.laws.specs.Checked.{count-right, alone-at, tree-is}
-use Rattle.table.specs.Passes.{stepOf, headerOf, schemaFrom, Planted, StoredTree, Kept, StoredSchema, Leaves, Whole, Beside}
-use Rattle.table.specs.declared.step.Step.{Step}
-use Rattle.table.specs.declared.step.Step.the-variants.{Next, Refused}
+use Rattle.table.specs.Passes.{progressOf, headerOf, schemaFrom, Planted, StoredTree, Kept, StoredSchema, Leaves, Whole, Beside}
+use Rattle.table.specs.declared.progress.Progress.{Progress}
+use Rattle.table.specs.declared.progress.Progress.the-variants.{Next, Refused}
 use Rattle.table.proofs.Trees.{by-next, by-refused, bind-ok, bind-refuse, then-ok}
 
 then-assoc : {A B : Type 0} (m : Answer (Unit {0})) (k : Answer A) (f : A → Answer B) → ((m >> k) >>= f) ≡ (m >> (k >>= f))
@@ -36,12 +36,12 @@ module _ (t : List ℕ) where
   unfolding schemaOf headerOf schemaFrom _>>=_
   schema-is = sym (then-assoc _ _ _ ∙ ap (λ (m : Answer Schema). need (isMarked t) 10 >> m) (then-assoc _ _ _ ∙ ap (λ (m : Answer Schema). need (eqb (u16 t 3) 1) 11 >> m) (then-assoc _ _ _)))
 
-  refuses : {work : List ℕ} {x y : ℕ} {r : Step} → r ≡ Refused x y → schemaOf t ≡ refuse x y → Kept work r (schemaOf t)
-  unfolding stepOf
+  refuses : {work : List ℕ} {x y : ℕ} {r : Progress} → r ≡ Refused x y → schemaOf t ≡ refuse x y → Kept work r (schemaOf t)
+  unfolding progressOf
   refuses {work} {x} {y} {r} q e = rw e (record { answer = q; stored = tt })
 
-  ends-kept-by : {work : List ℕ} {r : Step} (s : Schema) (m : Answer (Unit {0})) → r ≡ stepOf (λ u. s .count) m → Ends (λ i. getD work i 0) 0 (ends 0 (s .root)) → Kept work r (m >> ok s)
-  unfolding stepOf _>>_
+  ends-kept-by : {work : List ℕ} {r : Progress} (s : Schema) (m : Answer (Unit {0})) → r ≡ progressOf (λ u. s .count) m → Ends (λ i. getD work i 0) 0 (ends 0 (s .root)) → Kept work r (m >> ok s)
+  unfolding progressOf _>>_
   ends-kept-by s (ok u) h q = record { answer = h; stored = q }
   ends-kept-by s (refuse x y) h q = record { answer = h; stored = tt }
 
@@ -55,7 +55,7 @@ module _ (t : List ℕ) where
       then-elim (need (rightCount (u16 t 5) (length t)) 12) _ e₂ λ a₃ e₃.
       (sym (ok-same e₃), rw (← ok-same e₃) (need-true _ 12 0 a₃))
 
-  module _ {first : Step} (h : first ≡ stepOf (λ n. n) (headerOf t)) where
+  module _ {first : Progress} (h : first ≡ progressOf (λ n. n) (headerOf t)) where
     pub header-refuses : {work : List ℕ} {x y : ℕ} → first ≡ Refused x y → Kept work first (schemaOf t)
     header-refuses q = refuses q (schema-is ∙ bind-refuse (by-refused _ _ h q) _)
 
@@ -71,7 +71,7 @@ module _ (t : List ℕ) where
 
       -- ---- 13
 
-      module _ {second : Step} (h₂ : second ≡ stepOf (λ u. n) (each n (λ i. rightAlone (nodeAt t i)) 13)) where
+      module _ {second : Progress} (h₂ : second ≡ progressOf (λ u. n) (each n (λ i. rightAlone (nodeAt t i)) 13)) where
         pub alone-refuses : {work : List ℕ} {x y : ℕ} → second ≡ Refused x y → Kept work second (schemaOf t)
         unfolding schemaFrom _>>_
         alone-refuses p = refuses p (schema-nodes ∙ simp (by-refused _ _ h₂ p))
@@ -82,7 +82,7 @@ module _ (t : List ℕ) where
 
           -- ---- 14
 
-          module _ {before work : List ℕ} {third : Step} (d : Planted before work n third (tree n (nodeAt t))) where
+          module _ {before work : List ℕ} {third : Progress} (d : Planted before work n third (tree n (nodeAt t))) where
             pub tree-refuses : {work′ : List ℕ} {x y : ℕ} → third ≡ Refused x y → Kept work′ third (schemaOf t)
             unfolding schemaFrom
             tree-refuses s = refuses s (schema-nodes ∙ then-ok alone-is _ ∙ bind-refuse (by-refused _ _ (d .answer) s) _)
@@ -104,7 +104,7 @@ module _ (t : List ℕ) where
 
               -- ---- 15
 
-              module _ {r : Step} {work′ : List ℕ} (h₄ : r ≡ stepOf (λ u. n) (each n (λ i. agrees n (nodeAt t) i) 15)) (g : Beside work work′) where
+              module _ {r : Progress} {work′ : List ℕ} (h₄ : r ≡ progressOf (λ u. n) (each n (λ i. agrees n (nodeAt t) i) 15)) (g : Beside work work′) where
                 pub all-kept : 16384 ≤ length before → Kept work′ r (schemaOf t)
                 unfolding schemaFrom
                 all-kept l = planted λ w e b q.
@@ -126,7 +126,7 @@ module _ (t : List ℕ) (lent : ℕ) where
   unfolding check needAt _>>_
   short h z = refused-by (simp (lt-leb _ _ h)) z
 
-  module _ {work : List ℕ} {r : Step} (h : 16384 ≤ lent) (d : Kept work r (schemaOf t)) where
+  module _ {work : List ℕ} {r : Progress} (h : 16384 ≤ lent) (d : Kept work r (schemaOf t)) where
     check-is : check lent t ≡ schemaOf t
     unfolding check needAt _>>_
     check-is = simp (le-leb _ _ h)

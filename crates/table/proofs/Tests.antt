@@ -11,8 +11,8 @@ use borrow.Author.Tests.{ne-eqb, lt-ltb, le-ltb, le-leb, leb-true}
 use Rattle.format.specs.Answer.{ok, refuse, _>>_, needAt}
 use Rattle.format.specs.Table.{TableNode, u16, omittable, Context, kindMayStand, omittableMayStand, mayStand, stands, isMarked, rightCount, each}
 use Rattle.laws.specs.Facts.{by-lt}
-use Rattle.table.specs.Passes.{stepOf, headerOf}
-use Rattle.table.specs.declared.step.Step.the-variants.{Next, Refused}
+use Rattle.table.specs.Passes.{progressOf, headerOf}
+use Rattle.table.specs.declared.progress.Progress.the-variants.{Next, Refused}
 
 -- ---- the header
 
@@ -29,22 +29,22 @@ module _ (t : List ℕ) where
       let c = and-eq-true-iff (leb 7 (length t)) (eqb (getD t 0 0) 0x41) .0 (b .0) in
       leb-true 7 (length t) (c .0)
 
-  pub header-10 : isMarked t ≡ false → Refused 10 0 ≡ stepOf (λ n. n) (headerOf t)
-  unfolding stepOf headerOf needAt _>>_
+  pub header-10 : isMarked t ≡ false → Refused 10 0 ≡ progressOf (λ n. n) (headerOf t)
+  unfolding progressOf headerOf needAt _>>_
   header-10 e = simp e
 
   module _ (m : isMarked t ≡ true) where
-    pub header-11 : (u16 t 3 ≡ 1 → ⊥) → Refused 11 0 ≡ stepOf (λ n. n) (headerOf t)
-    unfolding stepOf headerOf needAt _>>_
+    pub header-11 : (u16 t 3 ≡ 1 → ⊥) → Refused 11 0 ≡ progressOf (λ n. n) (headerOf t)
+    unfolding progressOf headerOf needAt _>>_
     header-11 e = simp (m, ne-eqb _ _ e)
 
     module _ (v : u16 t 3 ≡ 1) where
-      pub header-12 : rightCount (u16 t 5) (length t) ≡ false → Refused 12 0 ≡ stepOf (λ n. n) (headerOf t)
-      unfolding stepOf headerOf needAt _>>_
+      pub header-12 : rightCount (u16 t 5) (length t) ≡ false → Refused 12 0 ≡ progressOf (λ n. n) (headerOf t)
+      unfolding progressOf headerOf needAt _>>_
       header-12 e = simp (m, v, e)
 
-      pub header-right : rightCount (u16 t 5) (length t) ≡ true → Next (u16 t 5) ≡ stepOf (λ n. n) (headerOf t)
-      unfolding stepOf headerOf needAt _>>_
+      pub header-right : rightCount (u16 t 5) (length t) ≡ true → Next (u16 t 5) ≡ progressOf (λ n. n) (headerOf t)
+      unfolding progressOf headerOf needAt _>>_
       header-right e = simp (m, v, e)
 
 -- ---- where a node may stand
@@ -63,21 +63,21 @@ module _ (c : Context) (x : TableNode) where
   plain-may e o = simp (e, o)
 
 module _ (n : ℕ) (at : ℕ → TableNode) (path : ℕ) (c : Context) (i : ℕ) where
-  pub stand-missing : n ≤ i → Refused 14 n ≡ stepOf (λ u. i) (stands n at path c i)
-  unfolding stepOf stands needAt _>>_
+  pub stand-missing : n ≤ i → Refused 14 n ≡ progressOf (λ u. i) (stands n at path c i)
+  unfolding progressOf stands needAt _>>_
   stand-missing h = simp (le-ltb _ _ h)
 
   module _ (h : i < n) where
-    pub stand-deep : path ≡ 0 → Refused 14 i ≡ stepOf (λ u. i) (stands n at path c i)
-    unfolding stepOf stands needAt _>>_
+    pub stand-deep : path ≡ 0 → Refused 14 i ≡ progressOf (λ u. i) (stands n at path c i)
+    unfolding progressOf stands needAt _>>_
     stand-deep p = simp (lt-ltb _ _ h, p)
 
-    pub stand-not : (path ≡ 0 → ⊥) → mayStand c (at i) ≡ false → Refused 14 i ≡ stepOf (λ u. i) (stands n at path c i)
-    unfolding stepOf stands needAt _>>_
+    pub stand-not : (path ≡ 0 → ⊥) → mayStand c (at i) ≡ false → Refused 14 i ≡ progressOf (λ u. i) (stands n at path c i)
+    unfolding progressOf stands needAt _>>_
     stand-not p m = let q : 0 < path = omega arith in simp (lt-ltb _ _ h, lt-ltb _ _ q, m)
 
-    pub stand-right : (path ≡ 0 → ⊥) → mayStand c (at i) ≡ true → Next i ≡ stepOf (λ u. i) (stands n at path c i)
-    unfolding stepOf stands needAt _>>_
+    pub stand-right : (path ≡ 0 → ⊥) → mayStand c (at i) ≡ true → Next i ≡ progressOf (λ u. i) (stands n at path c i)
+    unfolding progressOf stands needAt _>>_
     stand-right p m = let q : 0 < path = omega arith in simp (lt-ltb _ _ h, lt-ltb _ _ q, m)
 
 -- ---- a pass over all nodes
@@ -100,10 +100,10 @@ module _ (test : ℕ → Bool) (r : ℕ) where
   stops zero i h e t = absurd (omega arith)
   stops (suc n) i h e t = by-lt i n (λ l. simp (stops n i l e t)) (λ l. let x : n ≡ i = omega arith in simp (x, e, t))
 
-  pub pass-stops : (n i : ℕ) → i < n → Passed i → test i ≡ false → Refused r i ≡ stepOf (λ u. n) (each n test r)
-  unfolding stepOf
+  pub pass-stops : (n i : ℕ) → i < n → Passed i → test i ≡ false → Refused r i ≡ progressOf (λ u. n) (each n test r)
+  unfolding progressOf
   pass-stops n i h e t = simp (stops n i h e t)
 
-  pub pass-ends : (n i : ℕ) → i ≤ n → n ≤ i → Passed i → Next n ≡ stepOf (λ u. n) (each n test r)
-  unfolding stepOf Passed
+  pub pass-ends : (n i : ℕ) → i ≤ n → n ≤ i → Passed i → Next n ≡ progressOf (λ u. n) (each n test r)
+  unfolding progressOf Passed
   pass-ends n i h l e = let x : n ≡ i = omega arith in simp (x, e)

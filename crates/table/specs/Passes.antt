@@ -10,15 +10,15 @@ use Rattle.format.specs.Answer.{Answer, ok, refuse, need, number, zeros, _>>=_,
 use Rattle.format.specs.Table.{u16, TableNode, nodeAt, BLOCK, Context, atRoot, inRecord, inArray, inNullable, inBlock, Node, Schema, isMarked, rightCount, rightAlone, each, tree, agrees, heldBy, isBlockOf, check}
 use Rattle.laws.specs.Tree.{ends, Ends}
 use Rattle.laws.specs.Refusals.{refusal-is}
-use Rattle.table.specs.declared.step.Step.{Step}
-use Rattle.table.specs.declared.step.Step.the-variants.{Next, Refused}
+use Rattle.table.specs.declared.progress.Progress.{Progress}
+use Rattle.table.specs.declared.progress.Progress.the-variants.{Next, Refused}
 use Rattle.table.specs.declared.tree.Parent.{Parent}
 use Rattle.table.specs.declared.tree.Parent.the-variants.{Nothing, Record, Array, Nullable, Block}
 
 -- The code's answers: `count` is what a success counts.
-unfoldable pub stepOf : {A : Type 0} → (A → ℕ) → Answer A → Step
-stepOf count (ok a) = Next (count a)
-stepOf count (refuse r i) = Refused r i
+unfoldable pub progressOf : {A : Type 0} → (A → ℕ) → Answer A → Progress
+progressOf count (ok a) = Next (count a)
+progressOf count (refuse r i) = Refused r i
 
 abbrev pub contextOf : Parent → Context
 contextOf Nothing = atRoot
@@ -51,8 +51,8 @@ abbrev pub Stored : {A : Type 0} → (A → List ℕ) → ℕ → List ℕ → L
 Stored ends at before now (ok p) = now ≡ sets before at (ends (p .0))
 Stored ends at before now (refuse r i) = Unit {0}
 
-pub record Makes {A : Type 0} (ends : A → List ℕ) (at : ℕ) (before now : List ℕ) (r : Step) (built : Answer (A × ℕ)) : Type 0 where
-  pub answer : r ≡ stepOf (λ p. p .1) built
+pub record Makes {A : Type 0} (ends : A → List ℕ) (at : ℕ) (before now : List ℕ) (r : Progress) (built : Answer (A × ℕ)) : Type 0 where
+  pub answer : r ≡ progressOf (λ p. p .1) built
   pub stored : Stored ends at before now built
 
 -- the same of the whole tree of n nodes
@@ -60,8 +60,8 @@ abbrev pub StoredTree : List ℕ → List ℕ → Answer Node → Type 0
 StoredTree before now (ok w) = now ≡ sets before 0 (ends 0 w)
 StoredTree before now (refuse r i) = Unit {0}
 
-pub record Planted (before now : List ℕ) (n : ℕ) (r : Step) (built : Answer Node) : Type 0 where
-  pub answer : r ≡ stepOf (λ w. n) built
+pub record Planted (before now : List ℕ) (n : ℕ) (r : Progress) (built : Answer Node) : Type 0 where
+  pub answer : r ≡ progressOf (λ w. n) built
   pub stored : StoredTree before now built
 
 -- the same of all passes: the words of the nodes are the ends, and nothing is said of the other words
@@ -69,8 +69,8 @@ abbrev pub StoredSchema : List ℕ → Answer Schema → Type 0
 StoredSchema now (ok s) = Ends (λ i. getD now i 0) 0 (ends 0 (s .root))
 StoredSchema now (refuse r i) = Unit {0}
 
-pub record Kept (now : List ℕ) (r : Step) (schema : Answer Schema) : Type 0 where
-  pub answer : r ≡ stepOf (λ s. s .count) schema
+pub record Kept (now : List ℕ) (r : Progress) (schema : Answer Schema) : Type 0 where
+  pub answer : r ≡ progressOf (λ s. s .count) schema
   pub stored : StoredSchema now schema
 
 -- what the check leaves in so many lent words, for a walk over the table

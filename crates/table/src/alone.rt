@@ -3,9 +3,9 @@ ghost use mathlib.Core.Path.{_≡_};
 ghost use Prim.Native.Nat.{_+_, _*_, _≤_};
 ghost use lib.ListN.{length};
 ghost use Rattle.format.specs.Table.{nodeAt, mostArgument, rightAlone, each};
-ghost use Rattle.table.specs.Passes.{stepOf, flagsMayStand};
+ghost use Rattle.table.specs.Passes.{progressOf, flagsMayStand};
 use super::nodes;
-use super::step::Step;
+use super::progress::Progress;
 
 // The largest argument of a kind.
 fn most_argument(kind: u8) -> usize
@@ -54,16 +54,16 @@ fn right_alone(table: &[u8], i: usize) -> bool
     nodes::argument_at(table, i) <= most_argument(kind)
 }
 
-pub fn alone(table: &[u8], n: usize) -> Step
+pub fn alone(table: &[u8], n: usize) -> Progress
     requires { ⌜ 7 + 4 * n ≤ length (now table) ⌝ }
-    ensures { λ r. ⌜ r ≡ stepOf (λ u. n) (each n (λ i. rightAlone (nodeAt (now (table .entry)) i)) 13) ⌝ }
+    ensures { λ r. ⌜ r ≡ progressOf (λ u. n) (each n (λ i. rightAlone (nodeAt (now (table .entry)) i)) 13) ⌝ }
 {
     let mut i = 0;
     while i < n {
         if !right_alone(table, i) {
-            return Step::Refused(13, i as u64);
+            return Progress::Refused(13, i as u64);
         }
         i += 1;
     }
-    Step::Next(n)
+    Progress::Next(n)
 }

@@ -2,9 +2,9 @@
 ghost use mathlib.Core.Path.{_≡_};
 ghost use Prim.Native.Nat.{_<_};
 ghost use Rattle.format.specs.Table.{isMarked, rightCount};
-ghost use Rattle.table.specs.Passes.{stepOf, headerOf};
+ghost use Rattle.table.specs.Passes.{progressOf, headerOf};
 use super::nodes;
-use super::step::Step;
+use super::progress::Progress;
 
 const MOST_NODES: usize = 1024;
 
@@ -37,18 +37,18 @@ fn right_count(n: usize, size: usize) -> bool
 }
 
 // The node count.
-pub fn header(table: &[u8]) -> Step
-    ensures { λ r. ⌜ r ≡ stepOf (λ n. n) (headerOf (now (table .entry))) ⌝ }
+pub fn header(table: &[u8]) -> Progress
+    ensures { λ r. ⌜ r ≡ progressOf (λ n. n) (headerOf (now (table .entry))) ⌝ }
 {
     if !is_marked(table) {
-        return Step::Refused(10, 0);
+        return Progress::Refused(10, 0);
     }
     if nodes::u16_at(table, 3) != 1 {
-        return Step::Refused(11, 0);
+        return Progress::Refused(11, 0);
     }
     let n = nodes::u16_at(table, 5);
     if !right_count(n, table.len()) {
-        return Step::Refused(12, 0);
+        return Progress::Refused(12, 0);
     }
-    Step::Next(n)
+    Progress::Next(n)
 }

@@ -3,9 +3,9 @@ ghost use mathlib.Core.Path.{_≡_};
 ghost use Prim.Native.Nat.{_+_, _*_, _-_, _≤_, _<_};
 ghost use lib.ListN.{length, getD, set};
 ghost use Rattle.format.specs.Table.{nodeAt, alike, agrees, each};
-ghost use Rattle.table.specs.Passes.{stepOf, firstOf, Whole, Notes, Beside};
+ghost use Rattle.table.specs.Passes.{progressOf, firstOf, Whole, Notes, Beside};
 use super::nodes;
-use super::step::Step;
+use super::progress::Progress;
 use super::words;
 
 // While the pass runs, word NOTES + k is 1 more than the first BLOCK of key k, or 0. The words below are the ends.
@@ -63,25 +63,25 @@ fn agree(table: &[u8], work: &mut [u32], n: usize, i: usize) -> bool
     alike(table, first, i)
 }
 
-fn agree_all(table: &[u8], work: &mut [u32], n: usize) -> Step
+fn agree_all(table: &[u8], work: &mut [u32], n: usize) -> Progress
     requires { ⌜ Whole (now table) n × (1056 ≤ length (now work)) × Notes (nodeAt (now table)) 0 (now work) ⌝ }
-    ensures { λ r. ⌜ r ≡ stepOf (λ u. n) (each n (agrees n (nodeAt (now (table .entry)))) 15) ⌝ }
+    ensures { λ r. ⌜ r ≡ progressOf (λ u. n) (each n (agrees n (nodeAt (now (table .entry)))) 15) ⌝ }
     ensures { λ _. ⌜ Beside (now (work .entry)) (now (work .exit)) ⌝ }
 {
     let mut i = 0;
     while i < n {
         if !agree(table, work, n, i) {
-            return Step::Refused(15, i as u64);
+            return Progress::Refused(15, i as u64);
         }
         i += 1;
     }
-    Step::Next(n)
+    Progress::Next(n)
 }
 
 // The pass; the notes are 0 when it begins.
-pub fn keys(table: &[u8], work: &mut [u32], n: usize) -> Step
+pub fn keys(table: &[u8], work: &mut [u32], n: usize) -> Progress
     requires { ⌜ Whole (now table) n × (1056 ≤ length (now work)) ⌝ }
-    ensures { λ r. ⌜ r ≡ stepOf (λ u. n) (each n (agrees n (nodeAt (now (table .entry)))) 15) ⌝ }
+    ensures { λ r. ⌜ r ≡ progressOf (λ u. n) (each n (agrees n (nodeAt (now (table .entry)))) 15) ⌝ }
     ensures { λ _. ⌜ Beside (now (work .entry)) (now (work .exit)) ⌝ }
 {
     zero::zero_words(&mut work[NOTES..NOTES_END]);

@@ -10,12 +10,12 @@ mod alone;
 mod header;
 mod keys;
 pub mod nodes;
-mod step;
+mod progress;
 mod tree;
 mod words;
 
 use format::WORK_WORDS;
-use step::Step;
+use progress::Progress;
 
 // What a call answers: 0 and the node count, or a refusal's number and second number.
 pub struct Answer {
@@ -24,20 +24,20 @@ pub struct Answer {
 }
 
 // 10 to 15, each over all nodes before the next.
-fn passes(table: &[u8], work: &mut [u32]) -> Step
+fn passes(table: &[u8], work: &mut [u32]) -> Progress
     requires { ⌜ 16384 ≤ length (now work) ⌝ }
     ensures { λ r. ⌜ Kept (now (work .exit)) r (schemaOf (now (table .entry))) ⌝ }
 {
     let first = header::header(table);
-    let Step::Next(n) = first else {
+    let Progress::Next(n) = first else {
         return first;
     };
     let second = alone::alone(table, n);
-    let Step::Next(_) = second else {
+    let Progress::Next(_) = second else {
         return second;
     };
     let third = tree::tree(table, work, n);
-    let Step::Next(_) = third else {
+    let Progress::Next(_) = third else {
         return third;
     };
     keys::keys(table, work, n)
@@ -59,11 +59,11 @@ pub fn check_keeping(table: &[u8], work: &mut [u32]) -> Answer
     }
     let r = passes(table, work);
     match r {
-        Step::Refused(number, second) => {
+        Progress::Refused(number, second) => {
             zero::zero_words(work);
             Answer { number, second }
         }
-        Step::Next(n) => Answer {
+        Progress::Next(n) => Answer {
             number: 0,
             second: n as u64,
         },

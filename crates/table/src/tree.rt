@@ -4,9 +4,9 @@ ghost use Prim.Native.Nat.{_+_, _*_, _≤_, _<_};
 ghost use lib.ListN.{length};
 ghost use Rattle.format.specs.Table.{nodeAt, isTextual, isLeaf, kindMayStand, omittableMayStand, mayStand, stands, Shape, inRecord, build, buildFields, below, shapeOf, tree};
 ghost use Rattle.laws.specs.Tree.{ends, endsBelow, endsFields};
-ghost use Rattle.table.specs.Passes.{contextOf, stepOf, Makes, Planted};
+ghost use Rattle.table.specs.Passes.{contextOf, progressOf, Makes, Planted};
 use super::nodes;
-use super::step::Step;
+use super::progress::Progress;
 
 const LONGEST_PATH: usize = 32;
 
@@ -92,45 +92,45 @@ fn may_stand(table: &[u8], parent: Parent, i: usize) -> bool
 }
 
 // Is there a node i, may it stand there, and is the path not too long with it?
-fn stand(table: &[u8], n: usize, path: usize, parent: Parent, i: usize) -> Step
+fn stand(table: &[u8], n: usize, path: usize, parent: Parent, i: usize) -> Progress
     requires { ⌜ 7 + 4 * n ≤ length (now table) ⌝ }
-    ensures { λ r. ⌜ r ≡ stepOf (λ u. i) (stands n (nodeAt (now (table .entry))) path (contextOf parent) i) ⌝ }
+    ensures { λ r. ⌜ r ≡ progressOf (λ u. i) (stands n (nodeAt (now (table .entry))) path (contextOf parent) i) ⌝ }
 {
     if n <= i {
-        return Step::Refused(14, n as u64);
+        return Progress::Refused(14, n as u64);
     }
     if path == 0 {
-        return Step::Refused(14, i as u64);
+        return Progress::Refused(14, i as u64);
     }
     if !may_stand(table, parent, i) {
-        return Step::Refused(14, i as u64);
+        return Progress::Refused(14, i as u64);
     }
-    Step::Next(i)
+    Progress::Next(i)
 }
 
 // Node i and all below it, on a path of at most so many nodes from here on; then the node after it.
-fn node(table: &[u8], work: &mut [u32], n: usize, path: usize, parent: Parent, i: usize) -> Step
+fn node(table: &[u8], work: &mut [u32], n: usize, path: usize, parent: Parent, i: usize) -> Progress
     requires { ⌜ (7 + 4 * n ≤ length (now table)) × (n ≤ 1024) × (n ≤ length (now work)) ⌝ }
     ensures { λ r. ⌜ Makes (ends i) i (now (work .entry)) (now (work .exit)) r (build n (nodeAt (now (table .entry))) path (contextOf parent) i) ⌝ }
 {
     if path == 0 {
-        return Step::Refused(14, i as u64);
+        return Progress::Refused(14, i as u64);
     }
     let first = stand(table, n, path, parent, i);
-    let Step::Next(_) = first else {
+    let Progress::Next(_) = first else {
         return first;
     };
     let r = under(table, work, n, path - 1, i);
-    let Step::Next(j) = r else {
+    let Progress::Next(j) = r else {
         return r;
     };
     work[i] = j as u32;
     // made anew: a copy would copy the bytes behind the answer's tag too, which takes longer
-    Step::Next(j)
+    Progress::Next(j)
 }
 
 // What is below node i; then the node after it.
-fn under(table: &[u8], work: &mut [u32], n: usize, path: usize, i: usize) -> Step
+fn under(table: &[u8], work: &mut [u32], n: usize, path: usize, i: usize) -> Progress
     requires { ⌜ (7 + 4 * n ≤ length (now table)) × (n ≤ 1024) × (n ≤ length (now work)) × (i < n) ⌝ }
     ensures { λ r. ⌜ Makes (endsBelow i) (i + 1) (now (work .entry)) (now (work .exit)) r
         (below n (nodeAt (now (table .entry))) (shapeOf (nodeAt (now (table .entry)) i .kind)) path (build n (nodeAt (now (table .entry))) path) i) ⌝ }
@@ -148,26 +148,26 @@ fn under(table: &[u8], work: &mut [u32], n: usize, path: usize, i: usize) -> Ste
     if kind == nodes::NULLABLE {
         return node(table, work, n, path, Parent::Nullable, i + 1);
     }
-    Step::Next(i + 1)
+    Progress::Next(i + 1)
 }
 
 // The child of the BLOCK at i.
-fn leaf(table: &[u8], work: &mut [u32], n: usize, path: usize, i: usize) -> Step
+fn leaf(table: &[u8], work: &mut [u32], n: usize, path: usize, i: usize) -> Progress
     requires { ⌜ (7 + 4 * n ≤ length (now table)) × (n ≤ 1024) × (n ≤ length (now work)) × (i < n) ⌝ }
     ensures { λ r. ⌜ Makes (endsBelow i) (i + 1) (now (work .entry)) (now (work .exit)) r
         (below n (nodeAt (now (table .entry))) Shape.leaf path (build n (nodeAt (now (table .entry))) path) i) ⌝ }
 {
     let parent = Parent::Block(nodes::deduplicates(table, i));
     let r = stand(table, n, path, parent, i + 1);
-    let Step::Next(_) = r else {
+    let Progress::Next(_) = r else {
         return r;
     };
     work[i + 1] = (i + 2) as u32;
-    Step::Next(i + 2)
+    Progress::Next(i + 2)
 }
 
 // So many fields, from node i on; then the node after them.
-fn fields(table: &[u8], work: &mut [u32], n: usize, path: usize, count: usize, i: usize) -> Step
+fn fields(table: &[u8], work: &mut [u32], n: usize, path: usize, count: usize, i: usize) -> Progress
     requires { ⌜ (7 + 4 * n ≤ length (now table)) × (n ≤ 1024) × (n ≤ length (now work)) ⌝ }
     ensures { λ r. ⌜ Makes (endsFields i) i (now (work .entry)) (now (work .exit)) r
         (buildFields n (nodeAt (now (table .entry))) count (build n (nodeAt (now (table .entry))) path inRecord) i) ⌝ }
@@ -176,26 +176,26 @@ fn fields(table: &[u8], work: &mut [u32], n: usize, path: usize, count: usize, i
     let mut at = i;
     while k != 0 {
         let r = node(table, work, n, path, Parent::Record, at);
-        let Step::Next(j) = r else {
+        let Progress::Next(j) = r else {
             return r;
         };
         at = j;
         k -= 1;
     }
-    Step::Next(at)
+    Progress::Next(at)
 }
 
 // The whole tree, which uses all n nodes.
-pub fn tree(table: &[u8], work: &mut [u32], n: usize) -> Step
+pub fn tree(table: &[u8], work: &mut [u32], n: usize) -> Progress
     requires { ⌜ (7 + 4 * n ≤ length (now table)) × (n ≤ 1024) × (n ≤ length (now work)) ⌝ }
     ensures { λ r. ⌜ Planted (now (work .entry)) (now (work .exit)) n r (tree n (nodeAt (now (table .entry)))) ⌝ }
 {
     let r = node(table, work, n, LONGEST_PATH, Parent::Nothing, 0);
-    let Step::Next(j) = r else {
+    let Progress::Next(j) = r else {
         return r;
     };
     if j != n {
-        return Step::Refused(14, j as u64);
+        return Progress::Refused(14, j as u64);
     }
     r
 }

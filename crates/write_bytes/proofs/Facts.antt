@@ -13,7 +13,7 @@ use lib.Seq.{sets}
 use borrow.Author.Tests.{ltb-true, ltb-false, not-true, not-false}
 use Rattle.write_passes.specs.Plan.{putBytes}
 use Rattle.write_passes.specs.Laws.{put-fits, put-over}
-use Rattle.write_bytes.specs.declared.Step.the-variants.{Done, Refused}
+use Rattle.write_bytes.specs.declared.Put.the-variants.{To, Full}
 use Rattle.write_bytes.specs.State.{Puts}
 
 -- an i64 that is passed on is read back from its bits
@@ -24,19 +24,19 @@ pub not-over : (size end : ℕ) {over : Bool} → over ≡ ltb size end → over
 not-over size end t o = ltb-false size end (sym t ∙ o)
 
 module _ (put : Bool) (at n : ℕ) (bs : List ℕ) (size : length bs ≡ n) where
-  pub puts-counted : (out : List ℕ) → not put ≡ true → Puts put at bs out out (Done (at + n))
+  pub puts-counted : (out : List ℕ) → not put ≡ true → Puts put at bs out out (To (at + n))
   unfolding putBytes
   puts-counted out b = rw (not-true put b, ← size) (record { answer = refl; left = refl })
 
   -- `over` says whether they go beyond the output
   module _ (out : List ℕ) {out′ : List ℕ} {over : Bool} (b : not put ≡ false) (t : over ≡ ltb (length out) (at + n)) where
-    pub puts-full : over ≡ true → Puts put at bs out out′ (Refused 43)
+    pub puts-full : over ≡ true → Puts put at bs out out′ Full
     puts-full o =
         let h : length out < at + length bs = rw size (ltb-true (length out) (at + n) (sym t ∙ o)) in
         let e = put-over at bs out h in
         rw (not-false put b) (record { answer = rw e; left = rw e tt })
 
-    pub puts-stored : over ≡ false → out′ ≡ sets out at bs → Puts put at bs out out′ (Done (at + n))
+    pub puts-stored : over ≡ false → out′ ≡ sets out at bs → Puts put at bs out out′ (To (at + n))
     puts-stored o q =
         let h : at + length bs ≤ length out = rw size (not-over (length out) (at + n) t o) in
         let e = put-fits at bs out h in

@@ -14,7 +14,8 @@ use Rattle.format.specs.Modes.{inlineEverything, header}
 use Rattle.format.specs.Read.{Reading, nth}
 use Rattle.label.specs.Laws.{framed}
 use Rattle.store.specs.Words as words
-use Rattle.store.specs.Store.{put, advanced, unnumbered}
+use Rattle.store.specs.Store.{put}
+use Rattle.write_literals.specs.Store.{advanced, unnumbered}
 use Rattle.write_literals.specs.Words.{storeOf, Good, Changes}
 use Rattle.store.specs.Laws.{drop-nth}
 use Rattle.store.specs.Same.{Same, same-self, same-then}
@@ -63,7 +64,6 @@ pub record Laying (w₀ out₀ w out : List ℕ) (at i : ℕ) : Type 0 where
   pub room : at + blockSpace behind ≡ 1 + blockSpace (slotsOf w₀)
   pub good : Good w
   pub apart : Apart (slotsOf w)
-  pub rest : storeOf w .rest ≡ storeOf w₀ .rest
   pub same : Same w₀ w
   pub all : length (slotsOf w) ≡ length (slotsOf w₀)
   pub size : length out ≡ length out₀
@@ -80,7 +80,6 @@ laying-start w out g a = record {
   room = refl;
   good = g;
   apart = a;
-  rest = refl;
   same = same-self _;
   all = refl;
   size = refl;
@@ -130,7 +129,6 @@ module _ {w₀ out₀ w out : List ℕ} {at i : ℕ} (l : Laying w₀ out₀ w o
             room = let h : at + (framed n + blockSpace (next .0)) ≡ 1 + blockSpace (slotsOf w₀) = ap (λ xs. at + blockSpace xs) (sym (next .1)) ∙ l .room in omega arith;
             good = c .good;
             apart = rw moved (apart-change k (λ m. start) (slotsOf w) (l .apart));
-            rest = ap (λ s. s .rest) (c .store) ∙ l .rest;
             same = same-then (l .same) (record { at = c .outside });
             all = rw (moved-is, length-append) (sym (length-append (l .front) ((k, n) ∷ next .0)) ∙ ap length (sym split) ∙ l .all);
             size = ap length o ∙ length-sets out at (label (pos n)) ∙ l .size;
@@ -144,7 +142,6 @@ module _ {w₀ out₀ w out : List ℕ} {at i : ℕ} (l : Laying w₀ out₀ w o
       record {
         good = l .good;
         slots = l .is ∙ ap (λ xs. l .front ++ xs) e ∙ ap (λ xs. l .front ++ starts at xs) (sym e) ∙ l .slots;
-        rest = l .rest;
         same = l .same;
         labels = ap (λ xs. putLabels at xs out) (sym e) ∙ l .labels;
         end = let z : at + blockSpace [] ≡ 1 + blockSpace (slotsOf w₀) = ap (λ xs. at + blockSpace xs) (sym e) ∙ l .room in omega arith;
@@ -176,7 +173,7 @@ module _ (modes core : ℕ) {w w₁ w₂ out out₁ : List ℕ} {at : ℕ} (l : 
     good = c .good;
     slots = ap (λ s. under (λ p. p .at) (s .slots)) (c .store) ∙ l .slots;
     literals = ap (λ s. s .literals) (c .store);
-    rest = ap (λ s. s .rest) (c .store) ∙ l .rest;
+    few = ap (λ s. s .over) (c .store);
     same = same-then (l .same) (record { at = c .outside });
     labels = e;
     start = f;

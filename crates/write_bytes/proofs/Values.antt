@@ -9,41 +9,42 @@ use native.Mathlib.Omega.{arith}
 use lib.ListN.{length}
 use Rattle.format.specs.Answer.{Answer, ok, refuse, _>>=_, _>>_, needAt}
 use Rattle.format.specs.Read.{Reading}
-use Rattle.store.specs.Store.{Store, lookup, put, opened, advanced}
+use Rattle.store.specs.Store.{lookup, put}
+use Rattle.write_literals.specs.Store.{Store, opened, advanced}
 use Rattle.write_literals.specs.Words.{storeOf, Good, Changes}
 use Rattle.store.specs.Laws.{change-put}
 use Rattle.laws.specs.Facts.{ok-same, need-ok}
 use Rattle.write_passes.specs.Plan.{Plan, coreTo, slotsTo, putBytes, emitCore, emitSlot, emitBytes}
 use Rattle.write_passes.specs.Slots.{under, most-lookup, lookup-under, change-under}
-use Rattle.write_bytes.specs.declared.Step.{Step}
-use Rattle.write_bytes.specs.declared.Step.the-variants.{Done, Refused}
-use Rattle.write_bytes.specs.State.{planIn, planOf, slotsOf, Ready, Within, stepOf, Emits, Puts}
-use Rattle.write_bytes.specs.Does.{step-done, step-refused, along, does-ok, does-refuse, puts-done, puts-refused}
+use Rattle.write_bytes.specs.declared.Put.{Put}
+use Rattle.write_bytes.specs.declared.Put.the-variants.{To, Full}
+use Rattle.write_bytes.specs.State.{planIn, planOf, slotsOf, Ready, Within, answerOf, Emits, Puts}
+use Rattle.write_bytes.specs.Does.{along, does-ok, does-refuse, puts-done, puts-refused}
 use Rattle.write_bytes.specs.Value.{slotPlace, placeOf, slotTo, movedTo, HasPlace}
 
 -- ---- the place
 
 module _ (put inline : Bool) (k core : ℕ) (xs : List (ℕ × Reading)) where
-  abbrev placed : Step
-  placed = stepOf (λ n. n) (placeOf put inline k core (under (λ p. p .at) xs))
+  abbrev placed : Answer ℕ
+  placed = placeOf put inline k core (under (λ p. p .at) xs)
 
-  pub place-core : inline ≡ true → Done core ≡ placed
+  pub place-core : inline ≡ true → ok core ≡ placed
   unfolding placeOf
   place-core i = rw i
 
-  place-by : {o : Option Reading} → inline ≡ false → lookup k xs ≡ o → placed ≡ stepOf (λ n. n) (slotPlace put (Option·map (λ p. p .at) o))
+  place-by : {o : Option Reading} → inline ≡ false → lookup k xs ≡ o → placed ≡ slotPlace put (Option·map (λ p. p .at) o)
   unfolding placeOf
   place-by i e = rw (i, lookup-under (λ p. p .at) k xs, e)
 
-  pub place-slot : {a b : ℕ} → inline ≡ false → lookup k xs ≡ some (record { at = a; end = b }) → Done a ≡ placed
+  pub place-slot : {a b : ℕ} → inline ≡ false → lookup k xs ≡ some (record { at = a; end = b }) → ok a ≡ placed
   unfolding slotPlace
   place-slot i e = sym (place-by i e)
 
-  pub place-none : inline ≡ false → lookup k xs ≡ none → put ≡ true → Refused 43 ≡ placed
+  pub place-none : inline ≡ false → lookup k xs ≡ none → put ≡ true → refuse 43 0 ≡ placed
   unfolding slotPlace needAt _>>_
   place-none i e p = sym (place-by i e ∙ rw p)
 
-  pub place-new : inline ≡ false → lookup k xs ≡ none → put ≡ false → Done 0 ≡ placed
+  pub place-new : inline ≡ false → lookup k xs ≡ none → put ≡ false → ok 0 ≡ placed
   unfolding slotPlace needAt _>>_
   place-new i e p = sym (place-by i e ∙ rw p)
 
@@ -136,18 +137,18 @@ literals-stay false k n s = go (lookup k (s .slots))
     go (some p) = refl
     go none = refl
 
-place-done : {r : Step} {at : ℕ} (a : Answer ℕ) → r ≡ stepOf (λ n. n) a → r ≡ Done at → a ≡ ok at
-place-done a q e = let s = step-done (λ n. n) a q e in s .1 ∙ ap ok (sym (s .2))
+place-done : {r : Put} {at : ℕ} (a : Answer ℕ) → answerOf r ≡ a → r ≡ To at → a ≡ ok at
+place-done a q e = sym q ∙ ap answerOf e
 
 pub ready-kept : {pool w w′ : List ℕ} → Ready pool w → Good w′ → storeOf w′ .literals ≡ storeOf w .literals → Ready pool w′
 ready-kept g h e = record { small = g .small; good = h; inside = rw e (g .inside) }
 
-module _ (put inline : Bool) (k core : ℕ) {w : List ℕ} {r₁ : Step} (q₁ : r₁ ≡ stepOf (λ n. n) (placeOf put inline k core (slotsOf w))) where
-  pub place-found : {at : ℕ} → r₁ ≡ Done at → HasPlace put inline k core w
+module _ (put inline : Bool) (k core : ℕ) {w : List ℕ} {r₁ : Put} (q₁ : answerOf r₁ ≡ placeOf put inline k core (slotsOf w)) where
+  pub place-found : {at : ℕ} → r₁ ≡ To at → HasPlace put inline k core w
   place-found {at} q = record { at = at; found = place-done _ q₁ q }
 
   -- the place goes no further than the core and the slots
-  pub place-within : {b at : ℕ} → Within b core w → r₁ ≡ Done at → at ≤ b
+  pub place-within : {b at : ℕ} → Within b core w → r₁ ≡ To at → at ≤ b
   unfolding placeOf slotPlace
   place-within {b} {at} h q = go inline (place-done _ q₁ q)
     where
@@ -161,19 +162,15 @@ module _ (put inline : Bool) (k core : ℕ) {w : List ℕ} {r₁ : Step} (q₁ :
 
   module _ (bs : List ℕ) {out : List ℕ} where
     -- the key has no block
-    pub value-nowhere : {e : ℕ} {out′ : List ℕ} → r₁ ≡ Refused e → Emits w w out out′ core r₁ (emitBytes put inline k bs)
-    value-nowhere {e} {out′} q =
-        let x = step-refused (λ n. n) _ q₁ q in
-        record { does = λ pool g. along (bytes-nowhere put inline k bs (planOf pool out w core) (x .1)) (does-refuse q) }
+    pub value-nowhere : {out′ : List ℕ} → r₁ ≡ Full → Emits w w out out′ core r₁ (emitBytes put inline k bs)
+    value-nowhere q = record { does = λ pool g. along (bytes-nowhere put inline k bs (planOf pool out w core) (sym q₁ ∙ ap answerOf q)) (does-refuse q) }
 
-    module _ {at : ℕ} (q₂ : r₁ ≡ Done at) {out′ : List ℕ} {r₂ : Step} (d : Puts put at bs out out′ r₂) where
+    module _ {at : ℕ} (q₂ : r₁ ≡ To at) {out′ : List ℕ} {r₂ : Put} (d : Puts put at bs out out′ r₂) where
       -- the output is full
-      pub value-full : {e : ℕ} → r₂ ≡ Refused e → Emits w w out out′ core r₂ (emitBytes put inline k bs)
-      value-full {e} q =
-          let x = puts-refused d q in
-          record { does = λ pool g. along (bytes-full put inline k bs (planOf pool out w core) (place-done _ q₁ q₂) (x .1)) (does-refuse q) }
+      pub value-full : r₂ ≡ Full → Emits w w out out′ core r₂ (emitBytes put inline k bs)
+      value-full q = record { does = λ pool g. along (bytes-full put inline k bs (planOf pool out w core) (place-done _ q₁ q₂) (puts-refused d q)) (does-refuse q) }
 
-      pub value-done : {end : ℕ} → r₂ ≡ Done end → {core′ : ℕ} {w′ : List ℕ} → core′ ≡ cond inline end core → Changes w w′ (movedTo inline k end) → Emits w w′ out out′ core (Done core′) (emitBytes put inline k bs)
+      pub value-done : {end : ℕ} → r₂ ≡ To end → {core′ : ℕ} {w′ : List ℕ} → core′ ≡ cond inline end core → Changes w w′ (movedTo inline k end) → Emits w w′ out out′ core (To core′) (emitBytes put inline k bs)
       value-done {end} q {core′} {w′} f c =
           let x = puts-done d q in
           record {

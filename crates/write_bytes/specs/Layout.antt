@@ -3,7 +3,6 @@ use mathlib.Core.Path.{_≡_}
 use mathlib.Core.Bool.{false}
 use mathlib.Core.List.{List}
 use Prim.Native.Nat.{ℕ, _+_, _≤_}
-use lib.Dec.{ltb}
 use lib.ListN.{length}
 use Rattle.format.specs.Modes.{inlineEverything}
 use Rattle.format.specs.Read.{noLiterals, nth}
@@ -17,7 +16,6 @@ use Rattle.write_bytes.specs.State.{planOf, slotsOf, Ready}
 pub record LaysBlocks (w w′ out out′ : List ℕ) (at : ℕ) : Type 0 where
   pub good : Good w′
   pub slots : slotsOf w′ ≡ starts 1 (slotsOf w)
-  pub rest : storeOf w′ .rest ≡ storeOf w .rest
   pub same : Same w w′
   pub labels : out′ ≡ putLabels 1 (slotsOf w) out
   pub end : at ≡ 1 + blockSpace (slotsOf w)
@@ -26,14 +24,14 @@ pub record LaysOut (modes core : ℕ) (w w′ out out′ : List ℕ) (at : ℕ) 
   pub good : Good w′
   pub slots : slotsOf w′ ≡ starts 1 (slotsOf w)
   pub literals : storeOf w′ .literals ≡ noLiterals
-  pub rest : storeOf w′ .rest ≡ storeOf w .rest
+  pub few : storeOf w′ .over ≡ false
   pub same : Same w w′
   pub labels : out′ ≡ layOut modes core (slotsOf w) out
   pub start : at ≡ coreStart (inlineEverything modes) core (slotsOf w)
 
--- the plan before the second pass, if there was no literal too many
-pub laid-plan : (pool : List ℕ) {modes core : ℕ} {w w′ out out′ : List ℕ} {at : ℕ} → LaysOut modes core w w′ out out′ at → ltb 0 (storeOf w .rest .at) ≡ false → planOf pool out′ w′ at ≡ placed modes core (slotsOf w) out′
-laid-plan pool l o = rw (l .start, l .slots, l .literals, l .rest, o)
+-- the plan before the second pass
+pub laid-plan : (pool : List ℕ) {modes core : ℕ} {w w′ out out′ : List ℕ} {at : ℕ} → LaysOut modes core w w′ out out′ at → planOf pool out′ w′ at ≡ placed modes core (slotsOf w) out′
+laid-plan pool l = rw (l .start, l .slots, l .literals, l .few)
 
 pub laid-ready : {pool : List ℕ} {modes core : ℕ} {w w′ out out′ : List ℕ} {at : ℕ} → length pool ≤ 65536 → LaysOut modes core w w′ out out′ at → Ready pool w′
 unfolding nth

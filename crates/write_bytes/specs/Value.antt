@@ -7,9 +7,10 @@ use Prim.Native.Nat.{ℕ, _+_, _≤_}
 use Rattle.format.specs.Answer.{Answer, ok, _>>_, need}
 use Rattle.format.specs.Read.{Reading}
 use Rattle.format.specs.Write.{unlabelled, nothing}
-use Rattle.store.specs.Store.{Store, lookup, opened, advanced}
-use Rattle.write_bytes.specs.declared.Step.{Step}
-use Rattle.write_bytes.specs.declared.Step.the-variants.{Done, Refused}
+use Rattle.store.specs.Store.{lookup}
+use Rattle.write_literals.specs.Store.{Store, opened, advanced}
+use Rattle.write_bytes.specs.declared.Put.{Put}
+use Rattle.write_bytes.specs.declared.Put.the-variants.{To, Full}
 use Rattle.write_passes.specs.Plan.{emitFront}
 use Rattle.write_bytes.specs.State.{slotsOf, Emits}
 
@@ -39,10 +40,10 @@ movedTo true k at s = s
 movedTo false k at s = slotTo k at (lookup k (s .slots)) s
 
 -- The label in front of an unlabelled value, where one is wanted. It has to do with the output alone, so that the work may be any.
-pub record Fronts (put labelled : Bool) (out out′ : List ℕ) (core : ℕ) (r : Step) : Type 0 where
+pub record Fronts (put labelled : Bool) (out out′ : List ℕ) (core : ℕ) (r : Put) : Type 0 where
   pub emits : (w : List ℕ) → Emits w w out out′ core r (emitFront put (unlabelled labelled nothing .front))
 
 -- a label has ten bytes at most
-abbrev pub Near : ℕ → Step → Type 0
-Near core (Done c) = c ≤ core + 10
-Near core (Refused e) = Unit {0}
+abbrev pub Near : ℕ → Put → Type 0
+Near core (To c) = c ≤ core + 10
+Near core Full = Unit {0}

@@ -9,7 +9,7 @@ ghost use Rattle.format.specs.Label.{varint, label};
 ghost use Rattle.format.specs.Row.{bytesAt};
 ghost use Rattle.format.specs.Write.{littleEndianBytes};
 ghost use Rattle.write_bytes.specs.State.{Puts};
-use super::Step;
+use super::Put;
 
 // A length as a label.
 pub fn count_label(n: usize) -> i64
@@ -53,62 +53,55 @@ fn is_over(out: &[u8], end: usize) -> bool
 }
 
 // A part of the pool.
-pub fn put_part(
-    out: &mut [u8],
-    put: bool,
-    at: usize,
-    pool: &[u8],
-    start: usize,
-    size: usize,
-) -> Step
+pub fn put_part(out: &mut [u8], put: bool, at: usize, pool: &[u8], start: usize, size: usize) -> Put
     requires { ⌜ (at < 2 ^ 32) × (start + size ≤ length (now pool)) ⌝ }
     ensures { λ r. ⌜ Puts put at (bytesAt (now (pool .entry)) (record { start = start; size = size })) (now (out .entry)) (now (out .exit)) r ⌝ }
 {
     let end = at + size;
     if !put {
-        return Step::Done(end);
+        return Put::To(end);
     }
     if is_over(out, end) {
-        return Step::Refused(43);
+        return Put::Full;
     }
     copy(out, at, pool, start, size);
-    Step::Done(end)
+    Put::To(end)
 }
 
 // The VARINT z.
-pub fn put_number(out: &mut [u8], put: bool, at: usize, z: u64) -> Step
+pub fn put_number(out: &mut [u8], put: bool, at: usize, z: u64) -> Put
     requires { ⌜ at < 2 ^ 32 ⌝ }
     ensures { λ r. ⌜ Puts put at (varint z) (now (out .entry)) (now (out .exit)) r ⌝ }
 {
     let end = at + label::varint_size(z);
     if !put {
-        return Step::Done(end);
+        return Put::To(end);
     }
     if is_over(out, end) {
-        return Step::Refused(43);
+        return Put::Full;
     }
     label::put_varint(out, at, z);
-    Step::Done(end)
+    Put::To(end)
 }
 
 // The eight bytes of a word.
-pub fn put_word(out: &mut [u8], put: bool, at: usize, word: u64) -> Step
+pub fn put_word(out: &mut [u8], put: bool, at: usize, word: u64) -> Put
     requires { ⌜ at < 2 ^ 32 ⌝ }
     ensures { λ r. ⌜ Puts put at (littleEndianBytes 8 word) (now (out .entry)) (now (out .exit)) r ⌝ }
 {
     let end = at + 8;
     if !put {
-        return Step::Done(end);
+        return Put::To(end);
     }
     if is_over(out, end) {
-        return Step::Refused(43);
+        return Put::Full;
     }
     write_word(out, at, word);
-    Step::Done(end)
+    Put::To(end)
 }
 
 // The label n, where the core goes on.
-pub fn put_label(out: &mut [u8], put: bool, core: usize, n: i64) -> Step
+pub fn put_label(out: &mut [u8], put: bool, core: usize, n: i64) -> Put
     requires { ⌜ core < 2 ^ 32 ⌝ }
     ensures { λ r. ⌜ Puts put core (label n) (now (out .entry)) (now (out .exit)) r ⌝ }
 {

@@ -7,18 +7,18 @@ ghost use Rattle.format.specs.Write.{unlabelled, value as valueOf, littleEndian
 ghost use Rattle.write_literals.specs.Words.{Good};
 ghost use Rattle.write_bytes.specs.State.{Within, EmitsEvent};
 ghost use Rattle.write_bytes.specs.Value.{Fronts, Near};
-use super::Step;
+use super::Put;
 use super::bytes;
 use super::value;
 
 // The 0, where one is wanted.
-fn front(out: &mut [u8], put: bool, labelled: bool, core: usize) -> Step
+fn front(out: &mut [u8], put: bool, labelled: bool, core: usize) -> Put
     requires { ⌜ core < 2 ^ 32 ⌝ }
     ensures { λ r. ⌜ Fronts put labelled (now (out .entry)) (now (out .exit)) core r ⌝ }
     ensures { λ r. ⌜ Near core r ⌝ }
 {
     if !labelled {
-        return Step::Done(core);
+        return Put::To(core);
     }
     bytes::put_label(out, put, core, 0)
 }
@@ -35,13 +35,13 @@ pub fn emit_fixed(
     key: usize,
     start: usize,
     size: usize,
-) -> Step
+) -> Put
     requires { ⌜ (Good (now work)) × (Within (2 ^ 30) core (now work)) × (key < 32) × (start + size ≤ length (now pool)) × (length (now pool) ≤ 65536) ⌝ }
     ensures { λ r. ⌜ EmitsEvent put inline (now (work .entry)) (now (work .exit)) (now (out .entry)) (now (out .exit)) core r
         (unlabelled labelled (valueOf key (bytesAt (now (pool .entry)) (record { start = start; size = size })))) ⌝ }
 {
     let first = front(out, put, labelled, core);
-    let Step::Done(next) = first else {
+    let Put::To(next) = first else {
         return first;
     };
     value::part(pool, out, work, put, inline, next, key, start, size)
@@ -57,13 +57,13 @@ pub fn emit_varint(
     core: usize,
     key: usize,
     a: u64,
-) -> Step
+) -> Put
     requires { ⌜ (Good (now work)) × (Within (2 ^ 30) core (now work)) × (key < 32) ⌝ }
     ensures { λ r. ⌜ EmitsEvent put inline (now (work .entry)) (now (work .exit)) (now (out .entry)) (now (out .exit)) core r
         (unlabelled labelled (valueOf key (labelOf (integer a)))) ⌝ }
 {
     let first = front(out, put, labelled, core);
-    let Step::Done(next) = first else {
+    let Put::To(next) = first else {
         return first;
     };
     value::number(out, work, put, inline, next, key, a)
@@ -79,13 +79,13 @@ pub fn emit_float(
     core: usize,
     key: usize,
     a: u64,
-) -> Step
+) -> Put
     requires { ⌜ (Good (now work)) × (Within (2 ^ 30) core (now work)) × (key < 32) ⌝ }
     ensures { λ r. ⌜ EmitsEvent put inline (now (work .entry)) (now (work .exit)) (now (out .entry)) (now (out .exit)) core r
         (unlabelled labelled (valueOf key (littleEndianBytes 8 a))) ⌝ }
 {
     let first = front(out, put, labelled, core);
-    let Step::Done(next) = first else {
+    let Put::To(next) = first else {
         return first;
     };
     value::word(out, work, put, inline, next, key, a)

@@ -10,10 +10,10 @@ ghost use Rattle.format.specs.Read.{numberLabel};
 ghost use Rattle.format.specs.Write.{text, choose as chooseOf};
 ghost use Rattle.write_literals.specs.Words.{storeOf, Good, Changes};
 ghost use Rattle.write_passes.specs.Plan.{emitChoice, emitEvent};
-ghost use Rattle.write_search.specs.Search.{number as numberIn, textsOf, Inside, Small, Kept, Keeps};
+ghost use Rattle.write_search.specs.Search.{number as numberIn, textsOf, AreLiterals, InWords, KeepAs, KeepsText};
 ghost use Rattle.write_bytes.specs.State.{planOf, Ready, Within};
 ghost use Rattle.write_bytes.specs.Text.{kept, EmitsText};
-use super::Step;
+use super::Put;
 use super::bytes;
 use super::value;
 use write_search::Found;
@@ -28,10 +28,10 @@ fn number_label(j: usize) -> i64
 
 // The literal to name in place of the text. Without deduplication there is none.
 fn choose(pool: &[u8], work: &[u32], numbered: bool, key: usize, start: usize, size: usize) -> Found
-    requires { ⌜ (Good (now work)) × (Inside (now pool) (storeOf (now work) .literals)) × (key < 32) × (start + size ≤ length (now pool)) × (length (now pool) ≤ 65536) ⌝ }
+    requires { ⌜ (Good (now work)) × (AreLiterals (now pool) (storeOf (now work) .literals)) × (key < 32) × (start + size ≤ length (now pool)) × (length (now pool) ≤ 65536) ⌝ }
     ensures { λ r. ⌜ numberIn r ≡ chooseOf numbered (bytesAt (now (pool .entry)) (record { start = start; size = size })) (textsOf (now (pool .entry)) (getD (storeOf (now (work .entry)) .literals) key [])) ⌝ }
-    ensures { λ r. ⌜ Small r ⌝ }
-    ensures { λ r. ⌜ (numbered ≡ true → Kept (now (pool .entry)) (textsOf (now (pool .entry)) (getD (storeOf (now (work .entry)) .literals) key [])) (record { start = start; size = size }) r) ⌝ }
+    ensures { λ r. ⌜ InWords r ⌝ }
+    ensures { λ r. ⌜ (numbered ≡ true → KeepAs (now (pool .entry)) (textsOf (now (pool .entry)) (getD (storeOf (now (work .entry)) .literals) key [])) (record { start = start; size = size }) r) ⌝ }
 {
     if !numbered {
         return Found::Nothing(start, size);
@@ -39,16 +39,16 @@ fn choose(pool: &[u8], work: &[u32], numbered: bool, key: usize, start: usize, s
     write_search::choose(pool, work, key, start, size)
 }
 
-// Keeps a literal that takes a number, by two words; after 4,096 of them it notes that there was one too many.
+// KeepsText a literal that takes a number, by two words; after 4,096 of them it notes that there was one too many.
 fn keep(work: &mut [u32], numbered: bool, key: usize, first: usize, second: usize)
     requires { ⌜ (Good (now work)) × (key < 32) × (first < 2 ^ 32) × (second < 2 ^ 32) ⌝ }
-    ensures { λ _. ⌜ Changes (now (work .entry)) (now (work .exit)) (kept numbered key (record { start = first; size = second })) ⌝ }
+    ensures { λ _. ⌜ Changes (now (work .entry)) (now (work .exit)) (kept numbered key (record { first = first; second = second })) ⌝ }
 {
     if !numbered {
         return;
     }
     if 4096 <= store::total(work) {
-        store::set_rest(work, 1, 0);
+        write_literals::set_over(work);
         return;
     }
     write_literals::add(work, key, first, second);
@@ -68,22 +68,22 @@ fn literal(
     size: usize,
     first: usize,
     second: usize,
-) -> Step
+) -> Put
     requires { ⌜ (Ready (now pool) (now work)) × (Within (2 ^ 30) core (now work)) × (key < 32) × (start + size ≤ length (now pool)) × (first < 2 ^ 32) × (second < 2 ^ 32)
-        × (numbered ≡ true → Keeps (now pool) (textsOf (now pool) (getD (storeOf (now work) .literals) key [])) (record { start = start; size = size }) (record { start = first; size = second })) ⌝ }
+        × (numbered ≡ true → KeepsText (now pool) (textsOf (now pool) (getD (storeOf (now work) .literals) key [])) (record { start = start; size = size }) (record { first = first; second = second })) ⌝ }
     ensures { λ r. ⌜ EmitsText inline numbered key (now (pool .entry)) (now (work .entry)) (now (work .exit)) (now (out .exit)) r
         (λ modes held. emitChoice put modes held key (bytesAt (now (pool .entry)) (record { start = start; size = size })) none (planOf (now (pool .entry)) (now (out .entry)) (now (work .entry)) core)) ⌝ }
 {
     let front = bytes::put_label(out, put, core, bytes::count_label(size));
-    let Step::Done(next) = front else {
+    let Put::To(next) = front else {
         return front;
     };
     let step = value::part(pool, out, work, put, inline, next, key, start, size);
-    let Step::Done(end) = step else {
+    let Put::To(end) = step else {
         return step;
     };
     keep(work, numbered, key, first, second);
-    Step::Done(end)
+    Put::To(end)
 }
 
 // The text of `size` bytes of the pool from `start`.
@@ -98,7 +98,7 @@ pub fn emit_text(
     key: usize,
     start: usize,
     size: usize,
-) -> Step
+) -> Put
     requires { ⌜ (Ready (now pool) (now work)) × (Within (2 ^ 30) core (now work)) × (key < 32) × (start + size ≤ length (now pool)) ⌝ }
     ensures { λ r. ⌜ EmitsText inline numbered key (now (pool .entry)) (now (work .entry)) (now (work .exit)) (now (out .exit)) r
         (λ modes held. emitEvent put modes held (record { front = none; body = text key (bytesAt (now (pool .entry)) (record { start = start; size = size })) }) (planOf (now (pool .entry)) (now (out .entry)) (now (work .entry)) core)) ⌝ }

@@ -8,28 +8,28 @@ ghost use Rattle.format.specs.Row.{bytesAt};
 ghost use Rattle.format.specs.Write.{littleEndianBytes};
 ghost use Rattle.write_literals.specs.Words.{Good, Changes};
 ghost use Rattle.write_passes.specs.Plan.{emitBytes};
-ghost use Rattle.write_bytes.specs.State.{slotsOf, Within, stepOf, Emits};
+ghost use Rattle.write_bytes.specs.State.{slotsOf, Within, answerOf, Emits};
 ghost use Rattle.write_bytes.specs.Value.{placeOf, movedTo, HasPlace};
-use super::Step;
+use super::Put;
 use super::bytes;
 use store::Slot;
 
 // Where the next bytes of a key go. While they are counted, a key that was not touched before begins at 0.
-fn place(work: &[u32], put: bool, inline: bool, core: usize, key: usize) -> Step
+fn place(work: &[u32], put: bool, inline: bool, core: usize, key: usize) -> Put
     requires { ⌜ (Good (now work)) × (key < 32) ⌝ }
-    ensures { λ r. ⌜ r ≡ stepOf (λ at. at) (placeOf put inline key core (slotsOf (now (work .entry)))) ⌝ }
+    ensures { λ r. ⌜ answerOf r ≡ placeOf put inline key core (slotsOf (now (work .entry))) ⌝ }
 {
     if inline {
-        return Step::Done(core);
+        return Put::To(core);
     }
     let slot = store::find(work, key);
     if let Slot::At(at, _) = slot {
-        return Step::Done(at);
+        return Put::To(at);
     }
     if put {
-        return Step::Refused(43);
+        return Put::Full;
     }
-    Step::Done(0)
+    Put::To(0)
 }
 
 // The core, or the key's slot, moved on to `at`; returns how far the core goes. While bytes are put, a key whose place was found has a slot.
@@ -65,20 +65,20 @@ pub fn part(
     key: usize,
     start: usize,
     size: usize,
-) -> Step
+) -> Put
     requires { ⌜ (Good (now work)) × (Within (2 ^ 31) core (now work)) × (key < 32) × (start + size ≤ length (now pool)) × (length (now pool) ≤ 65536) ⌝ }
     ensures { λ r. ⌜ Emits (now (work .entry)) (now (work .exit)) (now (out .entry)) (now (out .exit)) core r
         (emitBytes put inline key (bytesAt (now (pool .entry)) (record { start = start; size = size }))) ⌝ }
 {
     let first = place(work, put, inline, core, key);
-    let Step::Done(at) = first else {
+    let Put::To(at) = first else {
         return first;
     };
     let step = bytes::put_part(out, put, at, pool, start, size);
-    let Step::Done(end) = step else {
+    let Put::To(end) = step else {
         return step;
     };
-    Step::Done(move_to(work, put, inline, core, key, end))
+    Put::To(move_to(work, put, inline, core, key, end))
 }
 
 // The integer whose word is a, as a VARINT.
@@ -90,20 +90,20 @@ pub fn number(
     core: usize,
     key: usize,
     a: u64,
-) -> Step
+) -> Put
     requires { ⌜ (Good (now work)) × (Within (2 ^ 31) core (now work)) × (key < 32) ⌝ }
     ensures { λ r. ⌜ Emits (now (work .entry)) (now (work .exit)) (now (out .entry)) (now (out .exit)) core r
         (emitBytes put inline key (labelOf (integer a))) ⌝ }
 {
     let first = place(work, put, inline, core, key);
-    let Step::Done(at) = first else {
+    let Put::To(at) = first else {
         return first;
     };
     let step = bytes::put_label(out, put, at, label::integer_of(a));
-    let Step::Done(end) = step else {
+    let Put::To(end) = step else {
         return step;
     };
-    Step::Done(move_to(work, put, inline, core, key, end))
+    Put::To(move_to(work, put, inline, core, key, end))
 }
 
 // The eight bytes of the word a.
@@ -115,18 +115,18 @@ pub fn word(
     core: usize,
     key: usize,
     a: u64,
-) -> Step
+) -> Put
     requires { ⌜ (Good (now work)) × (Within (2 ^ 31) core (now work)) × (key < 32) ⌝ }
     ensures { λ r. ⌜ Emits (now (work .entry)) (now (work .exit)) (now (out .entry)) (now (out .exit)) core r
         (emitBytes put inline key (littleEndianBytes 8 a)) ⌝ }
 {
     let first = place(work, put, inline, core, key);
-    let Step::Done(at) = first else {
+    let Put::To(at) = first else {
         return first;
     };
     let step = bytes::put_word(out, put, at, a);
-    let Step::Done(end) = step else {
+    let Put::To(end) = step else {
         return step;
     };
-    Step::Done(move_to(work, put, inline, core, key, end))
+    Put::To(move_to(work, put, inline, core, key, end))
 }

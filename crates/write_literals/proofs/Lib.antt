@@ -4,3 +4,4 @@ mod Places
 mod Chains
 mod Linking
 mod Meeting
+mod Over

@@ -4,18 +4,18 @@ use mathlib.Core.List.{List, [], _∷_, _++_}
 use Prim.Native.Nat.{ℕ, zero, suc, _+_, _-_, _*_, _/_, _%_, _<_, _≤_}
 use native.Mathlib.Omega.{arith}
 use native.Mathlib.Numerals.{add-one}
+use lib.Dec.{ltb}
 use lib.ListN.{length, set, length-set, length-append}
-use Rattle.format.specs.Row.{Place}
 use Rattle.format.specs.Read.{total}
 use Rattle.laws.specs.Facts.{by-eq, by-lt}
 use Rattle.store.specs.Lists.{upto, upto-addAt, sum-at}
-use Rattle.store.specs.Store.{added}
 use Rattle.store.specs.Words.{word, allOf, countOf}
-use Rattle.store.specs.Slots.{skip, hit, reading-eq, place-eq, store-eq, slots-below}
-use Rattle.write_literals.specs.Words.{placeAt, ownerOf, keyAt, numberAt, bucket, bucketOf, placesOf, storeOf, linkAt, lane, relinked, sideOf, headOf, linkOf, On, First, Linked, GoodLiterals, Good, Changes, Tail, Written}
-use Rattle.write_literals.specs.Laws.{total-is, count-most, head-none, head-on, head-off, head-beyond, first-done, places-kept, on-was, first-kept}
+use Rattle.store.specs.Slots.{skip, hit, slots-below}
+use Rattle.write_literals.specs.Store.{Literal, added, literal-eq, store-eq}
+use Rattle.write_literals.specs.Words.{literalAt, ownerOf, keyAt, numberAt, bucket, bucketOf, keyLiterals, storeOf, linkAt, lane, relinked, sideOf, headOf, linkOf, On, First, Linked, GoodLiterals, Good, Changes, Tail, Written}
+use Rattle.write_literals.specs.Laws.{total-is, count-most, head-none, head-on, head-off, head-beyond, first-done, key-literals-kept, on-was, first-kept}
 use Rattle.write_literals.proofs.Lanes.{lane-new, lane-other, above-same}
-use Rattle.write_literals.proofs.Places.{bucket-small, link-in, leads-next, places-more, places-other, append-none}
+use Rattle.write_literals.proofs.Places.{bucket-small, link-in, leads-next, key-literals-more, key-literals-other, append-none}
 
 -- ---- the words after the stores
 
@@ -44,7 +44,7 @@ module _ (w : List ℕ) (key g n at link s l : ℕ) (whole : 16384 ≤ length w)
   same : (a : ℕ) → (a ≡ 1156 → ⊥) × (a ≡ 1184 + key → ⊥) × (a ≡ 4096 + 3 * g + 2 → ⊥) × (a ≡ 4096 + 3 * g + 1 → ⊥) × (a ≡ 4096 + 3 * g → ⊥) × (a ≡ at → ⊥) → word w₆ a ≡ word w a
   same a o = after a (o .0, o .1) ∙ skip w₃ (4096 + 3 * g + 2) _ a (o .2) ∙ skip w₂ (4096 + 3 * g + 1) _ a (o .3) ∙ skip w₁ (4096 + 3 * g) _ a (o .4) ∙ skip w at _ a (o .5)
 
-  pub written : Written w w₆ key g n at link (record { start = s; size = l })
+  pub written : Written w w₆ key g n at link (record { first = s; second = l })
   written =
       let b₁ : 4096 + 3 * g < length w₁ = simp length-set (omega arith) in
       let b₂ : 4096 + 3 * g + 1 < length w₂ = simp length-set (omega arith) in
@@ -60,7 +60,7 @@ module _ (w : List ℕ) (key g n at link s l : ℕ) (whole : 16384 ≤ length w)
         links = λ i h b o. same i (omega arith, omega arith, omega arith, omega arith, omega arith, o);
         leads = after at (omega arith) ∙ skip w₃ (4096 + 3 * g + 2) _ at (omega arith) ∙ skip w₂ (4096 + 3 * g + 1) _ at (omega arith) ∙ skip w₁ (4096 + 3 * g) _ at (omega arith)
             ∙ hit w at link (omega arith);
-        here = place-eq
+        here = literal-eq
             (after (4096 + 3 * g) (omega arith) ∙ skip w₃ (4096 + 3 * g + 2) _ (4096 + 3 * g) (omega arith) ∙ skip w₂ (4096 + 3 * g + 1) _ (4096 + 3 * g) (omega arith) ∙ hit w₁ (4096 + 3 * g) s b₁)
             (after (4096 + 3 * g + 1) (omega arith) ∙ skip w₃ (4096 + 3 * g + 2) _ (4096 + 3 * g + 1) (omega arith) ∙ hit w₂ (4096 + 3 * g + 1) l b₂);
         owner = after (4096 + 3 * g + 2) (omega arith) ∙ hit w₃ (4096 + 3 * g + 2) (8192 * (n + 4096 * key)) b₃;
@@ -160,8 +160,8 @@ first-passed w b i t r f d = record {
 
 -- ---- a literal more
 
-module _ (w w₂ : List ℕ) (key : ℕ) (x : Place) (good : Good w) (hk : key < 32) (room : allOf w < 4096) {at : ℕ} (tl : Tail w (bucket key (x .size)) at)
-    (c : Written w w₂ key (allOf w) (countOf w key) at (relinked (sideOf (bucket key (x .size)) (tl .i)) (word w at) (allOf w + 1)) x) where
+module _ (w w₂ : List ℕ) (key : ℕ) (x : Literal) (good : Good w) (hk : key < 32) (room : allOf w < 4096) {at : ℕ} (tl : Tail w (bucket key (x .second)) at)
+    (c : Written w w₂ key (allOf w) (countOf w key) at (relinked (sideOf (bucket key (x .second)) (tl .i)) (word w at) (allOf w + 1)) x) where
   abbrev t : ℕ
   t = allOf w
 
@@ -169,18 +169,18 @@ module _ (w w₂ : List ℕ) (key : ℕ) (x : Place) (good : Good w) (hk : key <
   n = countOf w key
 
   abbrev b : ℕ
-  b = bucket key (x .size)
+  b = bucket key (x .second)
 
   small : b < 4096
-  small = bucket-small key (x .size)
+  small = bucket-small key (x .second)
 
   few : n < 4096
   few = omega (arith, count-most w (good .literals) key hk)
 
-  place-kept : (g : ℕ) → g < t → placeAt w₂ g ≡ placeAt w g
-  place-kept g h =
+  literal-kept : (g : ℕ) → g < t → literalAt w₂ g ≡ literalAt w g
+  literal-kept g h =
       let s = link-shape b (tl .i) g small in
-      place-eq
+      literal-eq
       (c .links (4096 + 3 * g) (omega arith) (omega arith) (λ e. s .0 (e ∙ tl .is)))
       (c .links (4096 + 3 * g + 1) (omega arith) (omega arith) (λ e. s .1 (e ∙ tl .is)))
 
@@ -194,10 +194,10 @@ module _ (w w₂ : List ℕ) (key : ℕ) (x : Place) (good : Good w) (hk : key <
   key-kept g h = ap (λ (m : ℕ). m / 4096) (owner-kept g h)
 
   bucket-kept : (g : ℕ) → g < t → bucketOf w₂ g ≡ bucketOf w g
-  bucket-kept g h = ap₂ (λ (k s : ℕ). bucket k s) (key-kept g h) (ap (λ (p : Place). p .size) (place-kept g h))
+  bucket-kept g h = ap₂ (λ (k s : ℕ). bucket k s) (key-kept g h) (ap (λ (p : Literal). p .second) (literal-kept g h))
 
-  kept : (k i : ℕ) → i ≤ t → placesOf w₂ k i ≡ placesOf w k i
-  kept k i h = places-kept w w₂ k i (λ g l. key-kept g (omega arith)) (λ g l. place-kept g (omega arith))
+  kept : (k i : ℕ) → i ≤ t → keyLiterals w₂ k i ≡ keyLiterals w k i
+  kept k i h = key-literals-kept w w₂ k i (λ g l. key-kept g (omega arith)) (λ g l. literal-kept g (omega arith))
 
   owner-new : ownerOf w₂ t ≡ n + 4096 * key
   owner-new = omega (arith, c .owner)
@@ -209,17 +209,17 @@ module _ (w w₂ : List ℕ) (key : ℕ) (x : Place) (good : Good w) (hk : key <
   number-new = let f = few in let o = owner-new in omega arith
 
   bucket-new : bucketOf w₂ t ≡ b
-  bucket-new = ap₂ (λ (k s : ℕ). bucket k s) key-new (ap (λ (p : Place). p .size) (c .here))
+  bucket-new = ap₂ (λ (k s : ℕ). bucket k s) key-new (ap (λ (p : Literal). p .second) (c .here))
 
   all-new : allOf w₂ ≡ suc t
   all-new = c .all ∙ add-one t
 
-  mine : placesOf w₂ key (allOf w₂) ≡ placesOf w key t ++ x ∷ []
-  mine = ap (λ (i : ℕ). placesOf w₂ key i) all-new ∙ places-more w₂ key t key-new ∙ ap₂ (λ (ps : List Place) (p : Place). ps ++ p ∷ []) (kept key t (omega arith)) (c .here)
+  mine : keyLiterals w₂ key (allOf w₂) ≡ keyLiterals w key t ++ x ∷ []
+  mine = ap (λ (i : ℕ). keyLiterals w₂ key i) all-new ∙ key-literals-more w₂ key t key-new ∙ ap₂ (λ (ps : List Literal) (p : Literal). ps ++ p ∷ []) (kept key t (omega arith)) (c .here)
 
-  others : (k : ℕ) → (k ≡ key → ⊥) → placesOf w₂ k (allOf w₂) ≡ placesOf w k t
+  others : (k : ℕ) → (k ≡ key → ⊥) → keyLiterals w₂ k (allOf w₂) ≡ keyLiterals w k t
   others k d =
-      ap (λ (i : ℕ). placesOf w₂ k i) all-new ∙ places-other w₂ k t (λ e. d (sym e ∙ key-new)) ∙ append-none (placesOf w₂ k t) ∙ kept k t (omega arith)
+      ap (λ (i : ℕ). keyLiterals w₂ k i) all-new ∙ key-literals-other w₂ k t (λ e. d (sym e ∙ key-new)) ∙ append-none (keyLiterals w₂ k t) ∙ kept k t (omega arith)
 
   leads-there : word w₂ (linkAt b (tl .i)) ≡ relinked (sideOf b (tl .i)) (word w (linkAt b (tl .i))) (t + 1)
   leads-there = rw (← tl .is) (c .leads)
@@ -264,12 +264,12 @@ module _ (w w₂ : List ℕ) (key : ℕ) (x : Place) (good : Good w) (hk : key <
       (λ d. let m : i′ ≤ t = omega arith in
       by-eq b′ b (λ eb. by-eq i′ (tl .i) (first-same b′ i′ h o m eb) (λ n. first-other b′ i′ h o m (λ y y₁. n y₁))) (λ n. first-other b′ i′ h o m (λ y y₁. n y)))
 
-  number-kept : (g : ℕ) → g < t → numberAt w₂ g ≡ length (placesOf w₂ (keyAt w₂ g) g)
+  number-kept : (g : ℕ) → g < t → numberAt w₂ g ≡ length (keyLiterals w₂ (keyAt w₂ g) g)
   number-kept g h =
-      ap (λ (m : ℕ). m % 4096) (owner-kept g h) ∙ good .literals .numbered g h ∙ sym (ap (λ (k : ℕ). length (placesOf w₂ k g)) (key-kept g h) ∙ ap length (kept (keyAt w g) g (omega arith)))
+      ap (λ (m : ℕ). m % 4096) (owner-kept g h) ∙ good .literals .numbered g h ∙ sym (ap (λ (k : ℕ). length (keyLiterals w₂ k g)) (key-kept g h) ∙ ap length (kept (keyAt w g) g (omega arith)))
 
-  number-last : numberAt w₂ t ≡ length (placesOf w₂ (keyAt w₂ t) t)
-  number-last = number-new ∙ good .literals .counted key hk ∙ sym (ap (λ (k : ℕ). length (placesOf w₂ k t)) key-new ∙ ap length (kept key t (omega arith)))
+  number-last : numberAt w₂ t ≡ length (keyLiterals w₂ (keyAt w₂ t) t)
+  number-last = number-new ∙ good .literals .counted key hk ∙ sym (ap (λ (k : ℕ). length (keyLiterals w₂ k t)) key-new ∙ ap length (kept key t (omega arith)))
 
   good-kept : GoodLiterals w₂
   good-kept =
@@ -279,7 +279,7 @@ module _ (w w₂ : List ℕ) (key : ℕ) (x : Place) (good : Good w) (hk : key <
         total = omega (arith, c .all, good .literals .total);
         most = omega (arith, c .all);
         counted = λ k h. by-eq k key
-            (λ e. rw e (c .counted ∙ ap (λ (m : ℕ). m + 1) (good .literals .counted key hk) ∙ sym (ap length mine ∙ length-append (placesOf w key t) (x ∷ []))))
+            (λ e. rw e (c .counted ∙ ap (λ (m : ℕ). m + 1) (good .literals .counted key hk) ∙ sym (ap length mine ∙ length-append (keyLiterals w key t) (x ∷ []))))
             (λ d. counts k h d ∙ good .literals .counted k h ∙ sym (ap length (others k d)));
         numbered = λ g h. by-eq g t (λ e. rw e number-last) (λ d. number-kept g (omega (arith, c .all)));
         linked = rw (c .all) linked-new;
@@ -288,14 +288,14 @@ module _ (w w₂ : List ℕ) (key : ℕ) (x : Place) (good : Good w) (hk : key <
   pub all-kept : Changes w w₂ (added key x)
   unfolding storeOf
   all-kept =
-      let below : (i : ℕ) → i < 1155 → word w₂ i ≡ word w i = c .below in
+      let below : (i : ℕ) → i < 1156 → word w₂ i ≡ word w i = c .below in
       let s = slots-below w w₂ (good .slots) (c .size) (λ i h. below i (omega arith)) in
       record {
         good = record { slots = s .0; literals = good-kept };
         store = store-eq
             (s .1)
-            (reading-eq (below 1153 (omega arith)) (below 1154 (omega arith)))
-            (upto-addAt (λ k. placesOf w k t) (λ k. placesOf w₂ k (allOf w₂)) 32 key x hk mine (λ k h d. others k d));
+            (upto-addAt (λ k. keyLiterals w k t) (λ k. keyLiterals w₂ k (allOf w₂)) 32 key x hk mine (λ k h d. others k d))
+            (ap (λ (n : ℕ). ltb 0 n) (below 1155 (omega arith)));
         size = c .size;
         outside = λ i h. below i (omega arith);
       }
@@ -307,17 +307,17 @@ unfolding linkAt sideOf
 side-at b zero h e low high = low (omega arith)
 side-at b (suc g) h e low high = high (omega arith)
 
-module _ (w : List ℕ) (good : Good w) (key : ℕ) (x : Place) (hk : key < 32) (room : total (storeOf w .literals) < 4096) {g n at : ℕ} (eg : g ≡ allOf w) (en : n ≡ countOf w key) (tl : Tail w (bucket key (x .size)) at) where
+module _ (w : List ℕ) (good : Good w) (key : ℕ) (x : Literal) (hk : key < 32) (room : total (storeOf w .literals) < 4096) {g n at : ℕ} (eg : g ≡ allOf w) (en : n ≡ countOf w key) (tl : Tail w (bucket key (x .second)) at) where
   pub few-enough : (allOf w < 4096) × (g < 4096)
   few-enough = omega (arith, total-is w (good .literals))
 
   pub where-at : (2048 ≤ at) × (at < 4096 + 3 * g)
-  where-at = let i = tl .is in omega (arith, link-in (bucket key (x .size)) (tl .i) g (bucket-small key (x .size)) (rw eg (tl .inside)))
+  where-at = let i = tl .is in omega (arith, link-in (bucket key (x .second)) (tl .i) g (bucket-small key (x .second)) (rw eg (tl .inside)))
 
   pub keep-in : (g < 4096) × (n < 4096) × (2048 ≤ at) × (at < 4096 + 3 * g)
   keep-in = (few-enough .1, omega (arith, few-enough, count-most w (good .literals) key hk), where-at .0, where-at .1)
 
-  pub keep-is : {w₂ : List ℕ} {y side link : ℕ} → y ≡ word w at → (at < 4096 → side ≡ bucket key (x .size) % 2) → (4096 ≤ at → side ≡ 0) → link ≡ relinked side y (g + 1) → Written w w₂ key g n at link x → Changes w w₂ (added key x)
+  pub keep-is : {w₂ : List ℕ} {y side link : ℕ} → y ≡ word w at → (at < 4096 → side ≡ bucket key (x .second) % 2) → (4096 ≤ at → side ≡ 0) → link ≡ relinked side y (g + 1) → Written w w₂ key g n at link x → Changes w w₂ (added key x)
   keep-is {w₂} {y} {side} {link} ey low high el c =
-      let q : side ≡ sideOf (bucket key (x .size)) (tl .i) = side-at (bucket key (x .size)) (tl .i) (bucket-small key (x .size)) (tl .is) low high in
+      let q : side ≡ sideOf (bucket key (x .second)) (tl .i) = side-at (bucket key (x .second)) (tl .i) (bucket-small key (x .second)) (tl .is) low high in
       all-kept w w₂ key x good hk (few-enough .0) tl (rw (el, q, ey, eg, en) at c)

@@ -8,11 +8,11 @@ use native.Mathlib.Omega.{arith}
 use lib.Dec.{eqb}
 use lib.ListN.{length}
 use borrow.Author.Tests.{eq-eqb, ne-eqb}
-use Rattle.format.specs.Row.{Place}
 use Rattle.format.specs.Read.{nth}
 use Rattle.laws.specs.Facts.{by-eq}
 use Rattle.store.specs.Words.{word}
-use Rattle.write_literals.specs.Words.{placeAt, keyAt, bucket, placesOf, linkAt, lane, headOf, linkOf}
+use Rattle.write_literals.specs.Store.{Literal}
+use Rattle.write_literals.specs.Words.{literalAt, keyAt, bucket, keyLiterals, linkAt, lane, headOf, linkOf}
 
 pub bucket-small : (k s : ℕ) → bucket k s < 4096
 unfolding bucket
@@ -59,32 +59,32 @@ nth-last [] x = refl
 nth-last (y ∷ xs) x = nth-last xs x
 
 module _ (w : List ℕ) where
-  pub places-more : (k t : ℕ) → keyAt w t ≡ k → placesOf w k (suc t) ≡ placesOf w k t ++ placeAt w t ∷ []
-  unfolding placesOf
-  places-more k t e = rw (eq-eqb (keyAt w t) k e)
+  pub key-literals-more : (k t : ℕ) → keyAt w t ≡ k → keyLiterals w k (suc t) ≡ keyLiterals w k t ++ literalAt w t ∷ []
+  unfolding keyLiterals
+  key-literals-more k t e = rw (eq-eqb (keyAt w t) k e)
 
-  pub places-other : (k t : ℕ) → (keyAt w t ≡ k → ⊥) → placesOf w k (suc t) ≡ placesOf w k t ++ []
-  unfolding placesOf
-  places-other k t e = rw (ne-eqb (keyAt w t) k e)
+  pub key-literals-other : (k t : ℕ) → (keyAt w t ≡ k → ⊥) → keyLiterals w k (suc t) ≡ keyLiterals w k t ++ []
+  unfolding keyLiterals
+  key-literals-other k t e = rw (ne-eqb (keyAt w t) k e)
 
-  places-still : (k t m : ℕ) {x : Place} → nth (placesOf w k t) m ≡ some x → nth (placesOf w k (suc t)) m ≡ some x
-  unfolding placesOf
-  places-still k t m i = nth-first (placesOf w k t) (cond (eqb (keyAt w t) k) (placeAt w t ∷ []) []) m i
+  key-literals-still : (k t m : ℕ) {x : Literal} → nth (keyLiterals w k t) m ≡ some x → nth (keyLiterals w k (suc t)) m ≡ some x
+  unfolding keyLiterals
+  key-literals-still k t m i = nth-first (keyLiterals w k t) (cond (eqb (keyAt w t) k) (literalAt w t ∷ []) []) m i
 
   -- literal g among those of its key
-  pub places-nth : (g t : ℕ) → g < t → nth (placesOf w (keyAt w g) t) (length (placesOf w (keyAt w g) g)) ≡ some (placeAt w g)
-  places-nth g zero h = absurd (omega arith)
-  places-nth g (suc t) h = by-eq g t
-      (λ e. rw (e, places-more (keyAt w t) t refl) (nth-last (placesOf w (keyAt w t) t) (placeAt w t)))
-      (λ d. places-still (keyAt w g) t (length (placesOf w (keyAt w g) g)) (places-nth g t (omega arith)))
+  pub key-literals-nth : (g t : ℕ) → g < t → nth (keyLiterals w (keyAt w g) t) (length (keyLiterals w (keyAt w g) g)) ≡ some (literalAt w g)
+  key-literals-nth g zero h = absurd (omega arith)
+  key-literals-nth g (suc t) h = by-eq g t
+      (λ e. rw (e, key-literals-more (keyAt w t) t refl) (nth-last (keyLiterals w (keyAt w t) t) (literalAt w t)))
+      (λ d. key-literals-still (keyAt w g) t (length (keyLiterals w (keyAt w g) g)) (key-literals-nth g t (omega arith)))
 
 -- literal m of the key is literal g of all
-pub record From (w : List ℕ) (k t m : ℕ) (x : Place) : Type 0 where
+pub record From (w : List ℕ) (k t m : ℕ) (x : Literal) : Type 0 where
   pub g : ℕ
   pub below : g < t
   pub owned : keyAt w g ≡ k
-  pub number : m ≡ length (placesOf w k g)
-  pub place : placeAt w g ≡ x
+  pub number : m ≡ length (keyLiterals w k g)
+  pub is : literalAt w g ≡ x
 
 pub append-none : {X : Type 0} (xs : List X) → xs ++ [] ≡ xs
 append-none [] = refl
@@ -98,17 +98,17 @@ nth-snoc (a ∷ xs) x zero e f h = f e
 nth-snoc (a ∷ xs) x (suc m) e f h = nth-snoc xs x m e f (λ q r. h (ap suc q) r)
 
 module _ (w : List ℕ) (k : ℕ) where
-  places-none : (m : ℕ) (x : Place) → nth (placesOf w k 0) m ≡ some x → ⊥
-  unfolding placesOf nth
-  places-none m x e = let z : _≡_ {A = ℕ} 0 1 = cc in omega arith
+  key-literals-none : (m : ℕ) (x : Literal) → nth (keyLiterals w k 0) m ≡ some x → ⊥
+  unfolding keyLiterals nth
+  key-literals-none m x e = let z : _≡_ {A = ℕ} 0 1 = cc in omega arith
 
-  pub places-from : (t m : ℕ) (x : Place) → nth (placesOf w k t) m ≡ some x → From w k t m x
-  places-from zero m x e = absurd (places-none m x e)
-  places-from (suc t) m x e = by-eq (keyAt w t) k
-      (λ q. nth-snoc (placesOf w k t) (placeAt w t) m (rw (places-more w k t q) at e)
-      (λ f. up (places-from t m x f))
-      (λ n r. record { g = t; below = omega arith; owned = q; number = n; place = r }))
-      (λ d. up (places-from t m x (rw (places-other w k t d, append-none) at e)))
+  pub key-literals-from : (t m : ℕ) (x : Literal) → nth (keyLiterals w k t) m ≡ some x → From w k t m x
+  key-literals-from zero m x e = absurd (key-literals-none m x e)
+  key-literals-from (suc t) m x e = by-eq (keyAt w t) k
+      (λ q. nth-snoc (keyLiterals w k t) (literalAt w t) m (rw (key-literals-more w k t q) at e)
+      (λ f. up (key-literals-from t m x f))
+      (λ n r. record { g = t; below = omega arith; owned = q; number = n; is = r }))
+      (λ d. up (key-literals-from t m x (rw (key-literals-other w k t d, append-none) at e)))
     where
       up : From w k t m x → From w k (suc t) m x
-      up f = record { g = f .g; below = omega (arith, f .below); owned = f .owned; number = f .number; place = f .place }
+      up f = record { g = f .g; below = omega (arith, f .below); owned = f .owned; number = f .number; is = f .is }

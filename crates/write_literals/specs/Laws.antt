@@ -7,19 +7,20 @@ use native.Mathlib.Omega.{arith}
 use lib.Dec.{eqb, ltb}
 use lib.ListN.{length, getD}
 use borrow.Author.Tests.{eq-eqb, ne-eqb, lt-ltb, le-ltb}
-use Rattle.format.specs.Row.{Place}
-use Rattle.format.specs.Read.{noLiterals, total}
+use Rattle.format.specs.Read.{Reading, noLiterals, total}
 use Rattle.store.specs.Lists.{upto, sumTo, upto-getD, upto-ext, upto-replicate, upto-total, sum-ext, sum-ge}
-use Rattle.store.specs.Words.{word, allOf, countOf}
-use Rattle.store.specs.Slots.{place-eq}
+use Rattle.store.specs.Words.{word, allOf, countOf, slotsOf, held, Moved, Cleared}
+use Rattle.store.specs.Store as memory
 use Rattle.store.specs.Keeping.{Keeping}
-use Rattle.write_literals.specs.Words.{placeAt, ownerOf, keyAt, bucket, bucketOf, placesOf, storeOf, lane, headOf, linkOf, On, First, Linked, GoodLiterals}
+use Rattle.store.specs.Keeping as kept
+use Rattle.write_literals.specs.Store.{Literal, Store, empty, opened, advanced, unnumbered, literal-eq, store-eq}
+use Rattle.write_literals.specs.Words.{literalAt, ownerOf, keyAt, bucket, bucketOf, keyLiterals, storeOf, lane, headOf, linkOf, On, First, Linked, GoodLiterals, Good, Changes}
 
 -- ---- how many there are
 
-pub literals-at : (w : List ℕ) (k : ℕ) → k < 32 → getD (storeOf w .literals) k [] ≡ placesOf w k (allOf w)
+pub literals-at : (w : List ℕ) (k : ℕ) → k < 32 → getD (storeOf w .literals) k [] ≡ keyLiterals w k (allOf w)
 unfolding storeOf
-literals-at w k h = upto-getD (λ i. placesOf w i (allOf w)) 32 k [] h
+literals-at w k h = upto-getD (λ i. keyLiterals w i (allOf w)) 32 k [] h
 
 module _ (w : List ℕ) (g : GoodLiterals w) where
   pub count-is : (k : ℕ) → k < 32 → countOf w k ≡ length (getD (storeOf w .literals) k [])
@@ -30,7 +31,7 @@ module _ (w : List ℕ) (g : GoodLiterals w) where
 
   pub total-is : allOf w ≡ total (storeOf w .literals)
   unfolding storeOf
-  total-is = g .total ∙ sym (upto-total (λ k. placesOf w k (allOf w)) 32 ∙ sum-ext (λ k. length (placesOf w k (allOf w))) (λ k. countOf w k) 32 (λ k h. sym (g .counted k h)))
+  total-is = g .total ∙ sym (upto-total (λ k. keyLiterals w k (allOf w)) 32 ∙ sum-ext (λ k. length (keyLiterals w k (allOf w))) (λ k. countOf w k) 32 (λ k h. sym (g .counted k h)))
 
 -- ---- heads
 
@@ -78,12 +79,12 @@ first-done w b i t h = record {
 -- ---- what stays where the words stay
 
 module _ (w w′ : List ℕ) where
-  pub places-kept : (k t : ℕ) → ((g : ℕ) → g < t → keyAt w′ g ≡ keyAt w g) → ((g : ℕ) → g < t → placeAt w′ g ≡ placeAt w g) → placesOf w′ k t ≡ placesOf w k t
-  unfolding placesOf
-  places-kept k zero a b = refl
-  places-kept k (suc t) a b =
-      rw (places-kept k t (λ g h. a g (omega arith)) (λ g h. b g (omega arith)))
-      (ap₂ (λ (n : ℕ) (x : Place). placesOf w k t ++ cond (eqb n k) (x ∷ []) []) (a t (omega arith)) (b t (omega arith)))
+  pub key-literals-kept : (k t : ℕ) → ((g : ℕ) → g < t → keyAt w′ g ≡ keyAt w g) → ((g : ℕ) → g < t → literalAt w′ g ≡ literalAt w g) → keyLiterals w′ k t ≡ keyLiterals w k t
+  unfolding keyLiterals
+  key-literals-kept k zero a b = refl
+  key-literals-kept k (suc t) a b =
+      rw (key-literals-kept k t (λ g h. a g (omega arith)) (λ g h. b g (omega arith)))
+      (ap₂ (λ (n : ℕ) (x : Literal). keyLiterals w k t ++ cond (eqb n k) (x ∷ []) []) (a t (omega arith)) (b t (omega arith)))
 
   pub on-kept : {b r t : ℕ} → ((g : ℕ) → g < t → bucketOf w′ g ≡ bucketOf w g) → r ≤ t → On w b r → On w′ b r
   on-kept s m o g e = s g (omega arith) ∙ o g e
@@ -102,7 +103,8 @@ module _ (w w′ : List ℕ) where
         none = λ z g h l e. f .none z g h l (sym (s g l) ∙ e);
       }
 
-module _ (w w′ : List ℕ) (e : (i : ℕ) → 1155 ≤ i → word w′ i ≡ word w i) where
+-- word 1,155 is none of theirs
+module _ (w w′ : List ℕ) (e : (i : ℕ) → 1156 ≤ i → word w′ i ≡ word w i) where
   all-same : allOf w′ ≡ allOf w
   all-same = e 1156 (omega arith)
 
@@ -112,14 +114,14 @@ module _ (w w′ : List ℕ) (e : (i : ℕ) → 1155 ≤ i → word w′ i ≡ w
   key-same : (g : ℕ) → keyAt w′ g ≡ keyAt w g
   key-same g = ap (λ (m : ℕ). m / 4096) (owner-same g)
 
-  places-same : (k t : ℕ) → placesOf w′ k t ≡ placesOf w k t
-  places-same k t = places-kept w w′ k t (λ g h. key-same g) (λ g h. place-eq (e (4096 + 3 * g) (omega arith)) (e (4096 + 3 * g + 1) (omega arith)))
+  key-literals-same : (k t : ℕ) → keyLiterals w′ k t ≡ keyLiterals w k t
+  key-literals-same k t = key-literals-kept w w′ k t (λ g h. key-same g) (λ g h. literal-eq (e (4096 + 3 * g) (omega arith)) (e (4096 + 3 * g + 1) (omega arith)))
 
   bucket-same : (g : ℕ) → bucketOf w′ g ≡ bucketOf w g
   bucket-same g = ap₂ (λ (k s : ℕ). bucket k s) (key-same g) (e (4096 + 3 * g + 1) (omega arith))
 
-  literals-kept : upto (λ k. placesOf w′ k (allOf w′)) 32 ≡ upto (λ k. placesOf w k (allOf w)) 32
-  literals-kept = upto-ext (λ k. placesOf w′ k (allOf w′)) (λ k. placesOf w k (allOf w)) 32 (λ k h. ap (λ (t : ℕ). placesOf w′ k t) all-same ∙ places-same k (allOf w))
+  pub literals-kept : upto (λ k. keyLiterals w′ k (allOf w′)) 32 ≡ upto (λ k. keyLiterals w k (allOf w)) 32
+  literals-kept = upto-ext (λ k. keyLiterals w′ k (allOf w′)) (λ k. keyLiterals w k (allOf w)) 32 (λ k h. ap (λ (t : ℕ). keyLiterals w′ k t) all-same ∙ key-literals-same k (allOf w))
 
   leads-same : (b i : ℕ) → linkOf w′ b i ≡ linkOf w b i
   unfolding linkOf
@@ -131,15 +133,15 @@ module _ (w w′ : List ℕ) (e : (i : ℕ) → 1155 ≤ i → word w′ i ≡ w
       let m₁ : i ≤ allOf w = rw (← all-same) m in
       rw (all-same, leads-same b i) (first-kept w w′ (λ g z. bucket-same g) (l b i h m₁ (on-was w w′ (λ g z. bucket-same g) m₁ o)))
 
-  good-literals-kept : GoodLiterals w → GoodLiterals w′
+  pub good-literals-kept : GoodLiterals w → GoodLiterals w′
   good-literals-kept g =
       let c : (k : ℕ) → countOf w′ k ≡ countOf w k = λ k. e (1184 + k) (omega arith) in
       let a = all-same in
       record {
         total = a ∙ g .total ∙ sum-ext (λ k. countOf w k) (λ k. countOf w′ k) 32 (λ k h. sym (c k));
         most = rw a (g .most);
-        counted = λ k h. c k ∙ g .counted k h ∙ sym (ap (λ (t : ℕ). length (placesOf w′ k t)) a ∙ ap length (places-same k (allOf w)));
-        numbered = λ i h. ap (λ (m : ℕ). m % 4096) (owner-same i) ∙ g .numbered i (rw a at h) ∙ sym (ap (λ (k : ℕ). length (placesOf w′ k i)) (key-same i) ∙ ap length (places-same (keyAt w i) i));
+        counted = λ k h. c k ∙ g .counted k h ∙ sym (ap (λ (t : ℕ). length (keyLiterals w′ k t)) a ∙ ap length (key-literals-same k (allOf w)));
+        numbered = λ i h. ap (λ (m : ℕ). m % 4096) (owner-same i) ∙ g .numbered i (rw a at h) ∙ sym (ap (λ (k : ℕ). length (keyLiterals w′ k i)) (key-same i) ∙ ap length (key-literals-same (keyAt w i) i));
         linked = linked-same (g .linked);
       }
 
@@ -150,9 +152,9 @@ module _ (w : List ℕ) (z : (i : ℕ) → 1155 ≤ i → i < 1216 → word w i 
   none-count : (k : ℕ) → k < 32 → countOf w k ≡ 0
   none-count k h = z (1184 + k) (omega arith) (omega arith)
 
-  none-places : (k : ℕ) → placesOf w k (allOf w) ≡ []
-  unfolding placesOf
-  none-places k = rw none-all
+  none-of-key : (k : ℕ) → keyLiterals w k (allOf w) ≡ []
+  unfolding keyLiterals
+  none-of-key k = rw none-all
 
   leads-none : (b i : ℕ) → i ≡ 0 → linkOf w b i ≡ 0
   unfolding linkOf
@@ -168,14 +170,53 @@ module _ (w : List ℕ) (z : (i : ℕ) → 1155 ≤ i → i < 1216 → word w i 
   good-none = record {
     total = none-all ∙ sym (sum-ext (λ k. countOf w k) (λ k. 0) 32 none-count);
     most = omega (arith, none-all);
-    counted = λ k h. none-count k h ∙ sym (ap length (none-places k));
+    counted = λ k h. none-count k h ∙ sym (ap length (none-of-key k));
     numbered = λ g h. absurd (omega (arith, none-all));
     linked = λ b i h l o. let z₀ : i ≡ 0 = omega (arith, none-all) in rw (leads-none b i z₀) (first-done w b i (allOf w) (omega (arith, none-all)));
   }
 
-  literals-none : upto (λ k. placesOf w k (allOf w)) 32 ≡ noLiterals
-  literals-none = upto-ext (λ k. placesOf w k (allOf w)) (λ k. []) 32 (λ k h. none-places k) ∙ upto-replicate {A = List Place} [] 32
+  literals-none : upto (λ k. keyLiterals w k (allOf w)) 32 ≡ noLiterals
+  literals-none = upto-ext (λ k. keyLiterals w k (allOf w)) (λ k. []) 32 (λ k h. none-of-key k) ∙ upto-replicate {A = List Literal} [] 32
 
-pub keeping : Keeping GoodLiterals (λ w. upto (λ k. placesOf w k (allOf w)) 32) storeOf
+-- The slots are those of `store`, where they stand with no literals.
+abbrev slotsIn : List ℕ → memory.Store
+slotsIn w = held w noLiterals
+
+keeping : Keeping GoodLiterals (λ w. noLiterals) slotsIn
+keeping = record { is = λ w. refl; sound = λ w w′ e. good-literals-kept w w′ (λ i h. e i (omega arith)); same = λ w w′ e. refl; none = λ w z. (good-none w z, refl) }
+
+pub looked-up : (w : List ℕ) (k : ℕ) → memory.lookup k (slotsOf w) ≡ memory.lookup k (storeOf w .slots)
 unfolding storeOf
-keeping = record { is = λ w. refl; sound = good-literals-kept; same = literals-kept; none = λ w z. (good-none w z, literals-none w z) }
+looked-up w k = refl
+
+module _ {w w′ : List ℕ} where
+  by-slots : {f : memory.Store → memory.Store} {g : Store → Store} → kept.Changes GoodLiterals slotsIn w w′ f → storeOf w′ ≡ g (storeOf w) → Changes w w′ g
+  by-slots c e = record { good = c .good; store = e; size = c .size; outside = c .outside }
+
+  -- a call on the slots
+  moved-store : {f : memory.Store → memory.Store} → Moved w w′ f → storeOf w′ ≡ record { slots = f (slotsIn w) .slots; literals = storeOf w .literals; over = storeOf w .over }
+  unfolding storeOf
+  moved-store m = store-eq (ap (λ (s : memory.Store). s .slots) (m .store noLiterals)) (literals-kept w w′ (λ i h. m .behind i (omega arith))) (ap (λ (x : ℕ). ltb 0 x) (m .behind 1155 (omega arith)))
+
+  pub moved-opened : (k : ℕ) (p : Reading) → Good w → Moved w w′ (memory.opened k p) → Changes w w′ (opened k p)
+  unfolding storeOf
+  moved-opened k p g m = by-slots (kept.moved keeping g m) (moved-store m)
+
+  pub moved-advanced : (k n : ℕ) → Good w → Moved w w′ (memory.advanced k n) → Changes w w′ (advanced k n)
+  unfolding storeOf
+  moved-advanced k n g m = by-slots (kept.moved keeping g m) (moved-store m)
+
+  -- all cleared
+  pub cleared : 16384 ≤ length w → Cleared 1120 w w′ → Changes w w′ (λ s. empty)
+  unfolding storeOf
+  cleared whole c =
+      let d = kept.cleared keeping whole c in
+      let z : (i : ℕ) → 1155 ≤ i → i < 1216 → word w′ i ≡ 0 = λ i h l. c .zeros i (omega arith) l in
+      by-slots d (store-eq (ap (λ (s : memory.Store). s .slots) (d .store)) (literals-none w′ z) (le-ltb 0 (word w′ 1155) (omega (arith, z 1155 (omega arith) (omega arith)))))
+
+  -- the literals cleared
+  pub forgotten : Good w → Cleared 1155 w w′ → Changes w w′ unnumbered
+  unfolding storeOf
+  forgotten g c =
+      let d = kept.forgotten keeping g c in
+      by-slots d (store-eq (ap (λ (s : memory.Store). s .slots) (d .store)) (literals-none w′ (c .zeros)) (le-ltb 0 (word w′ 1155) (omega (arith, c .zeros 1155 (omega arith) (omega arith)))))

@@ -1,4 +1,5 @@
 // The literals of all keys in the lent work, in one list, where each stands in the chain of its bucket: one with given words is found without a look at the others.
+// A literal is kept by two words: `write_search` says what stands in them.
 // What each word means stands in specs/Words.antt.
 ghost use mathlib.Core.Path.{_≡_};
 ghost use mathlib.Core.Bool.{true, false};
@@ -6,9 +7,12 @@ ghost use mathlib.Core.List.{[]};
 ghost use Prim.Native.Nat.{_+_, _*_, _%_, _/_, _<_, _≤_, _^_};
 ghost use lib.ListN.{length, getD};
 ghost use Rattle.format.specs.Read.{total as totalOf};
-ghost use Rattle.store.specs.Store.{added};
 ghost use Rattle.store.specs.Words.{allOf};
+ghost use Rattle.write_literals.specs.Store.{added, overfull};
 ghost use Rattle.write_literals.specs.Words.{storeOf, Good, Changes, bucket as bucketOf, headOf, linkOf, relinked as relinkedOf, Meets, Tail, Written};
+
+// 0; or 1, if there was a literal too many.
+const OVER: usize = 1155;
 
 // How many literals there are, all keys together.
 const TOTAL: usize = 1156;
@@ -22,7 +26,7 @@ const HEAD: usize = 2048;
 // The literals, three words each.
 const LITERAL: usize = 4096;
 
-// A literal's start and size have a place in their bits below this one.
+// A literal's two words have its place in their bits below this one.
 const SPAN: usize = 131072;
 
 // A link has the next literal in its bits below this one.
@@ -31,7 +35,7 @@ const NEXT: usize = 8192;
 // How many literals there may be.
 const MOST: usize = 4096;
 
-// A literal that was met: its number among those of its key, and its start.
+// A literal that was met: its number among those of its key, and its first word.
 pub struct Met {
     pub number: usize,
     pub first: usize,
@@ -43,11 +47,11 @@ fn wide(x: u32) -> usize
     x as usize
 }
 
-fn bucket(key: usize, size: usize) -> usize
-    requires { ⌜ (key < 2 ^ 32) × (size < 2 ^ 32) ⌝ }
-    ensures { λ r. ⌜ (r ≡ bucketOf key size) × (r < 4096) ⌝ }
+fn bucket(key: usize, second: usize) -> usize
+    requires { ⌜ (key < 2 ^ 32) × (second < 2 ^ 32) ⌝ }
+    ensures { λ r. ⌜ (r ≡ bucketOf key second) × (r < 4096) ⌝ }
 {
-    (size / SPAN + 977 * (size % SPAN) + 131 * key) % 4096
+    (second / SPAN + 977 * (second % SPAN) + 131 * key) % 4096
 }
 
 // The literal that the head of a bucket leads to, if there is one. It may be of another bucket: then this one has none.
@@ -62,7 +66,7 @@ fn head(work: &[u32], b: usize) -> usize
     at
 }
 
-// Whether a literal has this size, this upper part of its start, this key, and a number from j on.
+// Whether a literal has the wanted second word, this upper part of its first, this key, and a number from j on.
 fn sought(
     first: usize,
     second: usize,
@@ -70,34 +74,34 @@ fn sought(
     key: usize,
     j: usize,
     high: usize,
-    size: usize,
+    wanted: usize,
 ) -> bool
-    ensures { λ r. ⌜ (r ≡ true → (second ≡ size) × (first / 131072 ≡ high) × (owner / 4096 ≡ key) × (j ≤ owner % 4096)) × (r ≡ false → second ≡ size → first / 131072 ≡ high → owner / 4096 ≡ key → j ≤ owner % 4096 → ⊥) ⌝ }
+    ensures { λ r. ⌜ (r ≡ true → (second ≡ wanted) × (first / 131072 ≡ high) × (owner / 4096 ≡ key) × (j ≤ owner % 4096)) × (r ≡ false → second ≡ wanted → first / 131072 ≡ high → owner / 4096 ≡ key → j ≤ owner % 4096 → ⊥) ⌝ }
 {
-    (second == size) & (first / SPAN == high) & (owner / MOST == key) & (j <= owner % MOST)
+    (second == wanted) & (first / SPAN == high) & (owner / MOST == key) & (j <= owner % MOST)
 }
 
-// The first literal of a key from j on that has this size and this upper part of its start; or how many there are, where none has.
-pub fn meet(work: &[u32], key: usize, j: usize, high: usize, size: usize) -> Met
-    requires { ⌜ (Good (now work)) × (key < 32) × (j ≤ length (getD (storeOf (now work) .literals) key [])) × (size < 2 ^ 32) ⌝ }
-    ensures { λ r. ⌜ Meets (getD (storeOf (now (work .entry)) .literals) key []) j high size (r .number) (r .first) ⌝ }
+// The first literal of a key from j on that has the wanted second word and this upper part of its first; or how many there are, where none has.
+pub fn meet(work: &[u32], key: usize, j: usize, high: usize, wanted: usize) -> Met
+    requires { ⌜ (Good (now work)) × (key < 32) × (j ≤ length (getD (storeOf (now work) .literals) key [])) × (wanted < 2 ^ 32) ⌝ }
+    ensures { λ r. ⌜ Meets (getD (storeOf (now (work .entry)) .literals) key []) j high wanted (r .number) (r .first) ⌝ }
     ensures { λ r. ⌜ (r .number ≤ 4096) × (r .first < 2 ^ 32) ⌝ }
 {
     let number = store::count(work, key);
-    let b = bucket(key, size);
+    let b = bucket(key, wanted);
     let mut at = head(work, b);
     while at != 0 {
         let cell = LITERAL - 3 + 3 * at;
         let first = wide(work[cell]);
         let second = wide(work[cell + 1]);
         let link = wide(work[cell + 2]);
-        if sought(first, second, link / NEXT, key, j, high, size) {
+        if sought(first, second, link / NEXT, key, j, high, wanted) {
             return Met {
                 number: link / NEXT % MOST,
                 first,
             };
         }
-        // where the head led astray
+        // the head led to a literal of another bucket: this one has none
         if bucket(link / NEXT / MOST, second) != b {
             return Met { number, first: 0 };
         }
@@ -116,9 +120,9 @@ fn start(work: &[u32], b: usize) -> usize
         return 0;
     }
     let cell = LITERAL - 3 + 3 * at;
-    let size = wide(work[cell + 1]);
+    let second = wide(work[cell + 1]);
     let link = wide(work[cell + 2]);
-    if bucket(link / NEXT / MOST, size) != b {
+    if bucket(link / NEXT / MOST, second) != b {
         return 0;
     }
     at
@@ -165,30 +169,46 @@ fn write(
     n: usize,
     at: usize,
     link: usize,
-    start: usize,
-    size: usize,
+    first: usize,
+    second: usize,
 )
-    requires { ⌜ (16384 ≤ length (now work)) × (key < 32) × (g < 4096) × (n < 4096) × (2048 ≤ at) × (at < 4096 + 3 * g) × (link < 2 ^ 32) × (start < 2 ^ 32) × (size < 2 ^ 32) ⌝ }
-    ensures { λ _. ⌜ Written (now (work .entry)) (now (work .exit)) key g n at link (record { start = start; size = size }) ⌝ }
+    requires { ⌜ (16384 ≤ length (now work)) × (key < 32) × (g < 4096) × (n < 4096) × (2048 ≤ at) × (at < 4096 + 3 * g) × (link < 2 ^ 32) × (first < 2 ^ 32) × (second < 2 ^ 32) ⌝ }
+    ensures { λ _. ⌜ Written (now (work .entry)) (now (work .exit)) key g n at link (record { first = first; second = second }) ⌝ }
 {
     let cell = LITERAL + 3 * g;
     work[at] = link as u32;
-    work[cell] = start as u32;
-    work[cell + 1] = size as u32;
+    work[cell] = first as u32;
+    work[cell + 1] = second as u32;
     work[cell + 2] = (NEXT * (n + MOST * key)) as u32;
     work[COUNT + key] = (n + 1) as u32;
     work[TOTAL] = (g + 1) as u32;
 }
 
-// One literal more of a key, at the end of its chain.
-pub fn add(work: &mut [u32], key: usize, start: usize, size: usize)
-    requires { ⌜ (Good (now work)) × (key < 32) × (totalOf (storeOf (now work) .literals) < 4096) × (start < 2 ^ 32) × (size < 2 ^ 32) ⌝ }
-    ensures { λ _. ⌜ Changes (now (work .entry)) (now (work .exit)) (added key (record { start = start; size = size })) ⌝ }
+// One literal more of a key, kept by these two words, at the end of its chain.
+pub fn add(work: &mut [u32], key: usize, first: usize, second: usize)
+    requires { ⌜ (Good (now work)) × (key < 32) × (totalOf (storeOf (now work) .literals) < 4096) × (first < 2 ^ 32) × (second < 2 ^ 32) ⌝ }
+    ensures { λ _. ⌜ Changes (now (work .entry)) (now (work .exit)) (added key (record { first = first; second = second })) ⌝ }
 {
     let g = store::total(work);
     let n = store::count(work, key);
-    let b = bucket(key, size);
+    let b = bucket(key, second);
     let at = tail(work, b);
     let link = relinked(wide(work[at]), side(at, b), g + 1);
-    write(work, key, g, n, at, link, start, size);
+    write(work, key, g, n, at, link, first, second);
+}
+
+// Notes that there was a literal too many.
+pub fn set_over(work: &mut [u32])
+    requires { ⌜ Good (now work) ⌝ }
+    ensures { λ _. ⌜ Changes (now (work .entry)) (now (work .exit)) overfull ⌝ }
+{
+    work[OVER] = 1;
+}
+
+// Whether there was a literal too many.
+pub fn is_over(work: &[u32]) -> bool
+    requires { ⌜ Good (now work) ⌝ }
+    ensures { λ r. ⌜ r ≡ storeOf (now (work .entry)) .over ⌝ }
+{
+    0 < wide(work[OVER])
 }

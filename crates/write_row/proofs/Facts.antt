@@ -24,14 +24,14 @@ use Rattle.label.specs.Laws.{label-most}
 use Rattle.write_passes.specs.Plan.{emitFront, emitBody, emitEvent, emitEvents}
 use Rattle.write_passes.specs.Moves.{bodySize}
 use Rattle.store.specs.Same.{same-self}
-use Rattle.write_bytes.specs.declared.Step as emitted
+use Rattle.write_bytes.specs.declared.Put.{Put}
 use Rattle.write_bytes.specs.State.{planOf, Within, EmitsEvent, Puts}
 use Rattle.write_bytes.specs.Text.{EmitsText}
 use Rattle.write_bytes.specs.Does.{mark-emits}
 use Rattle.table.specs.declared.nodes.Leaf as code
 use Rattle.table.proofs.nodes.Leaf.{the-type}
-use Rattle.write_row.specs.declared.Step.{Step}
-use Rattle.write_row.specs.declared.Step.the-variants.{Done, Refused}
+use Rattle.write_row.specs.declared.Progress.{Progress}
+use Rattle.write_row.specs.declared.Progress.the-variants.{Done, Refused}
 use Rattle.write_row.specs.declared.Pass.{Pass}
 use Rattle.write_row.specs.Rest.{restOf}
 use Rattle.write_search.specs.Parts.{part-length}
@@ -41,7 +41,7 @@ use Rattle.write_row.specs.Fits.{textRow, textLeaf, looked, found-there,
 use Rattle.write_row.specs.Opens.{fitTruth, truth-not, truth-is, fitRecord, record-not, record-other, record-is, value-plain, front-not, front-gone, front-here}
 use Rattle.write_row.specs.Writes.{Holds}
 use Rattle.write_row.specs.Laws.{along, refuses, puts-any}
-use Rattle.write_row.specs.Row.{nextStep, row-writes, Marks, WritesRow, OpensGone, OpensHere, WritesValue, WritesText, leafOf, isJudged}
+use Rattle.write_row.specs.Row.{rowProgress, row-writes, Marks, WritesRow, OpensGone, OpensHere, WritesValue, WritesText, leafOf, isJudged}
 
 -- both kinds of text have a place
 pub text-place : (judged : Bool) {kind : ℕ} → kind ≡ textRow judged → isPlace kind ≡ true
@@ -53,7 +53,7 @@ text-place false e = rw e
 pub told : {A B : Type 0} (f : A → B) {r c : A} {x : B} → f r ≡ x → r ≡ c → x ≡ f c
 told f e q = sym e ∙ ap f q
 
-pub marks-by : {put : Bool} {out out′ : List ℕ} {i core : ℕ} {l l₁ : ℤ} {s : emitted.Step} {r : Step} → l₁ ≡ l → Puts put core (label l₁) out out′ s → r ≡ nextStep i s → Marks put out out′ i core r l
+pub marks-by : {put : Bool} {out out′ : List ℕ} {i core : ℕ} {l l₁ : ℤ} {s : Put} {r : Progress} → l₁ ≡ l → Puts put core (label l₁) out out′ s → r ≡ rowProgress i s → Marks put out out′ i core r l
 unfolding bodySize
 marks-by {put} {l = l} {l₁} z d q = record {
   writes = λ pool rows t. record {
@@ -65,7 +65,7 @@ module _ {put : Bool} {pool rows out out′ : List ℕ} {i core : ℕ} {a : Answ
   pub row-refuses : {n j : ℕ} → a ≡ refuse n j → WritesRow put pool rows out out′ i core (Refused n j) a
   row-refuses {n} {j} e = record { writes = λ modes held w h. along e (refuses n j) }
 
-  pub row-marks : {l : ℤ} {r : Step} → Marks put out out′ i core r l → i < rowCount rows → a ≡ ok (mark l ∷ [], restOf pool rows (i + 1)) → WritesRow put pool rows out out′ i core r a
+  pub row-marks : {l : ℤ} {r : Progress} → Marks put out out′ i core r l → i < rowCount rows → a ≡ ok (mark l ∷ [], restOf pool rows (i + 1)) → WritesRow put pool rows out out′ i core r a
   row-marks m t e = record { writes = λ modes held w h. along e (m .writes pool rows t .writes modes held w h) }
 
   -- a record's row that wants no label writes nothing
@@ -95,15 +95,15 @@ module _ {how : Pass} {pool rows out w out′ w′ : List ℕ} {core : ℕ} {a :
   pub value-refuses : {n j : ℕ} → a ≡ refuse n j → WritesValue how pool rows out w core out′ w′ (Refused n j) a
   value-refuses {n} {j} e = record { writes = λ modes held z. along e (refuses n j) }
 
-  value-writes : {i : ℕ} {e : Event} {s : emitted.Step} {r : Step} → Holds pool rows w i core → i < rowCount rows → bodySize (e .body) ≤ 65536
-      → EmitsEvent (how .put) (how .inline) w w′ out out′ core s e → r ≡ nextStep i s → a ≡ ok (e ∷ [], restOf pool rows (i + 1)) → WritesValue how pool rows out w core out′ w′ r a
+  value-writes : {i : ℕ} {e : Event} {s : Put} {r : Progress} → Holds pool rows w i core → i < rowCount rows → bodySize (e .body) ≤ 65536
+      → EmitsEvent (how .put) (how .inline) w w′ out out′ core s e → r ≡ rowProgress i s → a ≡ ok (e ∷ [], restOf pool rows (i + 1)) → WritesValue how pool rows out w core out′ w′ r a
   value-writes h t b d q e = record { writes = λ modes held z. along e (row-writes h t b (d .emits modes held z .does pool (h .ready)) q) }
 
   text-refuses : {numbered : Bool} {k n j : ℕ} → a ≡ refuse n j → WritesText how numbered k pool rows out w core out′ w′ (Refused n j) a
   text-refuses {n = n} {j} e = record { writes = λ modes held z y. along e (refuses n j) }
 
   -- a value that is no text is written so whether its key's texts are numbered or not
-  pub as-text : {numbered : Bool} {k : ℕ} {r : Step} → WritesValue how pool rows out w core out′ w′ r a → WritesText how numbered k pool rows out w core out′ w′ r a
+  pub as-text : {numbered : Bool} {k : ℕ} {r : Progress} → WritesValue how pool rows out w core out′ w′ r a → WritesText how numbered k pool rows out w core out′ w′ r a
   as-text d = record { writes = λ modes held z y. d .writes modes held z }
 
 -- ---- what a BLOCK holds
@@ -133,7 +133,7 @@ or-of true y z = refl
 or-of false y z = sym y ∙ z
 
 -- what a text has emitted
-abbrev Texts : Pass → Bool → ℕ → List ℕ → List ℕ → List ℕ → List ℕ → List ℕ → ℕ → emitted.Step → Place → Type 0
+abbrev Texts : Pass → Bool → ℕ → List ℕ → List ℕ → List ℕ → List ℕ → List ℕ → ℕ → Put → Place → Type 0
 Texts how numbered k pool out w out′ w′ core s p =
     EmitsText (how .inline) numbered k pool w w′ out′ s (λ modes held. emitEvent (how .put) modes held (record { front = none; body = text k (bytesAt pool p) }) (planOf pool out w core))
 
@@ -142,8 +142,8 @@ module _ {how : Pass} {pool rows out w out′ w′ : List ℕ} {i core : ℕ} (h
     pub varint-none : valueIn integerRow (looked pool rows i) ≡ none → WritesValue how pool rows out w core out′ w′ (Refused 42 i) (fitLeaf k varint labelled (restOf pool rows i))
     varint-none e = value-refuses (varint-not pool rows i k labelled e)
 
-    pub varint-some : {n : ℕ} {s : emitted.Step} {r : Step} → valueIn integerRow (looked pool rows i) ≡ some n → n < 2 ^ 64
-        → EmitsEvent (how .put) (how .inline) w w′ out out′ core s (unlabelled labelled (value k (label (integer n)))) → r ≡ nextStep i s
+    pub varint-some : {n : ℕ} {s : Put} {r : Progress} → valueIn integerRow (looked pool rows i) ≡ some n → n < 2 ^ 64
+        → EmitsEvent (how .put) (how .inline) w w′ out out′ core s (unlabelled labelled (value k (label (integer n)))) → r ≡ rowProgress i s
         → WritesValue how pool rows out w core out′ w′ r (fitLeaf k varint labelled (restOf pool rows i))
     varint-some {n} e b d q =
         let l = label-most (integer n) in
@@ -152,8 +152,8 @@ module _ {how : Pass} {pool rows out w out′ w′ : List ℕ} {i core : ℕ} (h
     pub float-none : valueIn floatRow (looked pool rows i) ≡ none → WritesValue how pool rows out w core out′ w′ (Refused 42 i) (fitLeaf k float64 labelled (restOf pool rows i))
     float-none e = value-refuses (float-not pool rows i k labelled e)
 
-    pub float-some : {n : ℕ} {s : emitted.Step} {r : Step} → valueIn floatRow (looked pool rows i) ≡ some n → n < 2 ^ 64
-        → EmitsEvent (how .put) (how .inline) w w′ out out′ core s (unlabelled labelled (value k (littleEndianBytes 8 n))) → r ≡ nextStep i s
+    pub float-some : {n : ℕ} {s : Put} {r : Progress} → valueIn floatRow (looked pool rows i) ≡ some n → n < 2 ^ 64
+        → EmitsEvent (how .put) (how .inline) w w′ out out′ core s (unlabelled labelled (value k (littleEndianBytes 8 n))) → r ≡ rowProgress i s
         → WritesValue how pool rows out w core out′ w′ r (fitLeaf k float64 labelled (restOf pool rows i))
     float-some {n} e b d q =
         let l = little-length 8 n in
@@ -167,13 +167,13 @@ module _ {how : Pass} {pool rows out w out′ w′ : List ℕ} {i core : ℕ} (h
         pub fixed-long : (p .size ≡ n → ⊥) → WritesValue how pool rows out w core out′ w′ (Refused 42 i) (fitLeaf k (fixed n) labelled (restOf pool rows i))
         fixed-long z = value-refuses (fixed-other pool rows i k labelled n e (λ q. z (sym (part-length pool p l) ∙ q)))
 
-        pub fixed-some : {s : emitted.Step} {r : Step} → p .size ≡ n → EmitsEvent (how .put) (how .inline) w w′ out out′ core s (unlabelled labelled (value k (bytesAt pool p))) → r ≡ nextStep i s
+        pub fixed-some : {s : Put} {r : Progress} → p .size ≡ n → EmitsEvent (how .put) (how .inline) w w′ out out′ core s (unlabelled labelled (value k (bytesAt pool p))) → r ≡ rowProgress i s
             → WritesValue how pool rows out w core out′ w′ r (fitLeaf k (fixed n) labelled (restOf pool rows i))
         fixed-some z d q = value-writes h (place-there pool rows i fixedRow e) (body-size labelled k (bytesAt pool p) (part-short pool p l (h .ready .small))) d q (fixed-is pool rows i k labelled n e (part-length pool p l ∙ z))
 
   -- a text
   module _ {numbered : Bool} where
-    text-writes : (p : Place) {a : Answer (List Event × Rest)} {s : emitted.Step} {r : Step} → i < rowCount rows → p .start + p .size ≤ length pool → Texts how numbered k pool out w out′ w′ core s p → r ≡ nextStep i s
+    text-writes : (p : Place) {a : Answer (List Event × Rest)} {s : Put} {r : Progress} → i < rowCount rows → p .start + p .size ≤ length pool → Texts how numbered k pool out w out′ w′ core s p → r ≡ rowProgress i s
         → a ≡ ok (record { front = none; body = text k (bytesAt pool p) } ∷ [], restOf pool rows (i + 1)) → WritesText how numbered k pool rows out w core out′ w′ r a
     text-writes p t l d q e = record { writes = λ modes held z y. along e (row-writes h t (text-size k (bytesAt pool p) (part-short pool p l (h .ready .small))) (d .does modes held z y) q) }
 
@@ -185,7 +185,7 @@ module _ {how : Pass} {pool rows out w out′ w′ : List ℕ} {i core : ℕ} (h
         pub text-28 : (how .put || not judged || isText (bytesAt pool p)) ≡ false → WritesText how numbered k pool rows out w core out′ w′ (Refused 28 i) (fitLeaf k (textLeaf judged) false (restOf pool rows i))
         text-28 z = text-refuses (text-stray pool rows i k false judged e (or-false (how .put) _ (sym (or-assoc (how .put) (not judged) _) ∙ z) .1))
 
-        module _ {s : emitted.Step} {r : Step} (d : Texts how numbered k pool out w out′ w′ core s p) (q : r ≡ nextStep i s) where
+        module _ {s : Put} {r : Progress} (d : Texts how numbered k pool out w out′ w′ core s p) (q : r ≡ rowProgress i s) where
           text-good : (not judged || isText (bytesAt pool p)) ≡ true → WritesText how numbered k pool rows out w core out′ w′ r (fitLeaf k (textLeaf judged) false (restOf pool rows i))
           text-good z = text-writes p (place-there pool rows i (textRow judged) e) l d q (text-is pool rows i k false judged e z)
 
@@ -202,7 +202,7 @@ module _ {put : Bool} {pool rows out out′ : List ℕ} {i core : ℕ} where
   pub truth-none : truthOf (looked pool rows i) ≡ none → WritesRow put pool rows out out′ i core (Refused 42 i) (fitTruth (restOf pool rows i))
   truth-none e = row-refuses (truth-not pool rows i e)
 
-  pub truth-some : {l : ℤ} {r : Step} → truthOf (looked pool rows i) ≡ some l → Marks put out out′ i core r l → WritesRow put pool rows out out′ i core r (fitTruth (restOf pool rows i))
+  pub truth-some : {l : ℤ} {r : Progress} → truthOf (looked pool rows i) ≡ some l → Marks put out out′ i core r l → WritesRow put pool rows out out′ i core r (fitTruth (restOf pool rows i))
   unfolding truthOf
   truth-some e m = row-marks m (found-there pool rows i truthOf (λ n j. refl) e) (truth-is pool rows i e)
 
@@ -217,7 +217,7 @@ module _ {put : Bool} {pool rows out out′ : List ℕ} {i core : ℕ} where
       pub record-plain : n ≡ count → labelled ≡ false → out′ ≡ out → WritesRow put pool rows out out′ i core (Done (i + 1) core) (fitRecord count labelled (restOf pool rows i))
       record-plain z f o = row-nothing o (value-there pool rows i recordRow e) (record-is pool rows i count labelled e z ∙ rw f)
 
-      pub record-front : {r : Step} → n ≡ count → labelled ≡ true → Marks put out out′ i core r (pos 0) → WritesRow put pool rows out out′ i core r (fitRecord count labelled (restOf pool rows i))
+      pub record-front : {r : Progress} → n ≡ count → labelled ≡ true → Marks put out out′ i core r (pos 0) → WritesRow put pool rows out out′ i core r (fitRecord count labelled (restOf pool rows i))
       unfolding unlabelled
       record-front z f m = row-marks m (value-there pool rows i recordRow e) (record-is pool rows i count labelled e z ∙ rw f)
 
@@ -229,7 +229,7 @@ module _ {put : Bool} {pool rows out out′ : List ℕ} {i core : ℕ} where
       pub open-refused : frontOf omittable nullable (looked pool rows i) ≡ none → OpensGone put omittable nullable pool rows out out′ i core (Refused 42 i)
       open-refused e = record { writes = λ held v n. row-refuses (front-not held pool rows i omittable v (rw n z) (rw n e)) }
 
-      pub open-gone : {l : ℤ} {r : Step} → frontOf omittable nullable (looked pool rows i) ≡ some (some l) → Marks put out out′ i core r l → OpensGone put omittable nullable pool rows out out′ i core r
+      pub open-gone : {l : ℤ} {r : Progress} → frontOf omittable nullable (looked pool rows i) ≡ some (some l) → Marks put out out′ i core r l → OpensGone put omittable nullable pool rows out out′ i core r
       unfolding frontOf
       open-gone e m = record { writes = λ held v n. row-marks m (found-there pool rows i (frontOf omittable nullable) (λ x j. refl) e) (front-gone held pool rows i omittable v (rw n z) (rw n e)) }
 
@@ -246,7 +246,7 @@ not-judged code.the-variants.Float64 h = refl
 not-judged code.the-variants.Bytes h = refl
 not-judged (code.the-variants.Fixed n) h = refl
 
-module _ {how : Pass} {pool rows out w out′ w′ : List ℕ} {core k : ℕ} {r : Step} {numbered : Bool} (i : ℕ) (labelled : Bool) where
+module _ {how : Pass} {pool rows out w out′ w′ : List ℕ} {core k : ℕ} {r : Progress} {numbered : Bool} (i : ℕ) (labelled : Bool) where
   -- the tags are those of the code's `String` and `Bytes`
   pub held-text : {b : Bool} (l : code.Leaf) → OneOf (0 ∷ 3 ∷ []) (tagOf the-type l) → b ≡ isJudged l → WritesText how numbered k pool rows out w core out′ w′ r (fitLeaf k (textLeaf b) false (restOf pool rows i))
       → WritesText how numbered k pool rows out w core out′ w′ r (fitLeaf k (leafOf l) labelled (restOf pool rows i))

@@ -12,6 +12,7 @@ use Rattle.write_row.specs.declared.row.Word.{Word}
 use Rattle.write_row.specs.declared.row.Word.the-variants as words
 use Rattle.write_row.specs.declared.row.Truth.{Truth}
 use Rattle.write_row.specs.declared.row.Truth.the-variants as truths
+use Rattle.write_row.specs.declared.row.Presence.the-variants.{Absent, Null, Here}
 use Rattle.write_row.specs.declared.row.Front.{Front}
 use Rattle.write_row.specs.declared.row.Front.the-variants as fronts
 
@@ -50,7 +51,7 @@ truth (truths.Is true) = some (pos 1)
 truth truths.Not = none
 
 abbrev pub front : Front → Option (Option ℤ)
-front fronts.Absent = some (some absentLabel)
-front fronts.Null = some (some nullLabel)
-front fronts.Here = some none
+front (fronts.Is Absent) = some (some absentLabel)
+front (fronts.Is Null) = some (some nullLabel)
+front (fronts.Is Here) = some none
 front fronts.Not = none

@@ -13,8 +13,8 @@ use Rattle.write_passes.specs.Laws.{emit-append}
 use Rattle.write_passes.specs.Moves.{fine-counts, event-moves}
 use Rattle.store.specs.Same.{Same, same-self, same-then}
 use Rattle.write_bytes.specs.State.{planOf}
-use Rattle.write_row.specs.declared.Step.{Step}
-use Rattle.write_row.specs.declared.Step.the-variants.{Done, Refused}
+use Rattle.write_row.specs.declared.Progress.{Progress}
+use Rattle.write_row.specs.declared.Progress.the-variants.{Done, Refused}
 use Rattle.write_row.specs.Rest.{restOf}
 use Rattle.write_row.specs.Writes.{Holds, Left, Emitted, Acts, Writes}
 
@@ -23,7 +23,7 @@ abbrev pub joined : List Event × Rest → List Event × Rest → List Event × 
 joined x y = (x .0 ++ y .0, y .1)
 
 module _ {put : Bool} {modes : ℕ} {held : ℕ → Held} {pool rows : List ℕ} where
-  pub along : {out w out′ w′ : List ℕ} {core : ℕ} {r : Step} {a a′ : Answer (List Event × Rest)} → a ≡ a′
+  pub along : {out w out′ w′ : List ℕ} {core : ℕ} {r : Progress} {a a′ : Answer (List Event × Rest)} → a ≡ a′
       → Writes put modes held pool rows out w core out′ w′ r a′ → Writes put modes held pool rows out w core out′ w′ r a
   along {out} {w} {out′} {w′} {core} {r} e d = subst (λ x. Writes put modes held pool rows out w core out′ w′ r x) (sym e) d
 
@@ -31,7 +31,7 @@ module _ {put : Bool} {modes : ℕ} {held : ℕ → Held} {pool rows : List ℕ}
   refuses e j = record { left = tt; acts = λ z. refl }
 
   -- the pass that puts follows one that has counted, and of rows that do not fit it says nothing
-  pub puts-any : {out w out′ w′ : List ℕ} {core : ℕ} {r : Step} {a : Answer (List Event × Rest)} (e j : ℕ) → put ≡ true → Writes put modes held pool rows out w core out′ w′ r a → Writes put modes held pool rows out w core out′ w′ r (refuse e j)
+  pub puts-any : {out w out′ w′ : List ℕ} {core : ℕ} {r : Progress} {a : Answer (List Event × Rest)} (e j : ℕ) → put ≡ true → Writes put modes held pool rows out w core out′ w′ r a → Writes put modes held pool rows out w core out′ w′ r (refuse e j)
   puts-any e j y d = record { left = d .left; acts = λ z. let x : _≡_ {A = ℕ} 0 1 = cc in absurd (omega arith) }
 
   -- no rows
@@ -39,7 +39,7 @@ module _ {put : Bool} {modes : ℕ} {held : ℕ → Held} {pool rows : List ℕ}
   unfolding emitEvents
   ends {w = w} i core h = record { left = (h, same-self w); acts = (refl, refl, refl) }
 
-apart : {P : Type 0} {i core e j : ℕ} {r : Step} → r ≡ Done i core → r ≡ Refused e j → P
+apart : {P : Type 0} {i core e j : ℕ} {r : Progress} → r ≡ Done i core → r ≡ Refused e j → P
 apart p q = let z : _≡_ {A = ℕ} 0 1 = cc in absurd (omega arith)
 
 -- counting refuses nothing
@@ -52,12 +52,12 @@ module _ (modes : ℕ) (held : ℕ → Held) where
       let (s, k) = counts es q in
       (s, bind-is _ h k)
 
-left-then : (pool rows out₂ w₂ w w₁ : List ℕ) (r : Step) → Same w w₁ → (s : Step) → Left pool rows out₂ w₂ r w₁ s → Left pool rows out₂ w₂ r w s
+left-then : (pool rows out₂ w₂ w w₁ : List ℕ) (r : Progress) → Same w w₁ → (s : Progress) → Left pool rows out₂ w₂ r w₁ s → Left pool rows out₂ w₂ r w s
 left-then pool rows out₂ w₂ w w₁ r k (Done i core) h = (h .0, same-then k (h .1))
 left-then pool rows out₂ w₂ w w₁ r k (Refused e j) h = tt
 
 -- what a step that is done has left
-module _ {put : Bool} {modes : ℕ} {held : ℕ → Held} {pool rows out w out′ w′ : List ℕ} {core i′ core′ : ℕ} {r : Step} {a : Answer (List Event × Rest)} (d : Writes put modes held pool rows out w core out′ w′ r a) (q : r ≡ Done i′ core′) where
+module _ {put : Bool} {modes : ℕ} {held : ℕ → Held} {pool rows out w out′ w′ : List ℕ} {core i′ core′ : ℕ} {r : Progress} {a : Answer (List Event × Rest)} (d : Writes put modes held pool rows out w core out′ w′ r a) (q : r ≡ Done i′ core′) where
   pub done-holds : Holds pool rows w′ i′ core′
   done-holds = subst (λ s. Left pool rows out′ w′ r w s) q (d .left) .0
 
@@ -65,11 +65,11 @@ module _ {put : Bool} {modes : ℕ} {held : ℕ → Held} {pool rows out w out�
   done-same = subst (λ s. Left pool rows out′ w′ r w s) q (d .left) .1
 
 module _ (put : Bool) (modes : ℕ) (held : ℕ → Held) (pool rows : List ℕ) where
-  abbrev ActsOn : List ℕ → List ℕ → Step → Plan → Answer (List Event × Rest) → Type 0
+  abbrev ActsOn : List ℕ → List ℕ → Progress → Plan → Answer (List Event × Rest) → Type 0
   ActsOn out′ w′ r = Acts pool rows out′ w′ r put modes held
 
   -- rows that have fitted and been emitted, and others after them
-  module _ (out₂ w₂ : List ℕ) (r : Step) (x : List Event × Rest) (p : Plan) where
+  module _ (out₂ w₂ : List ℕ) (r : Progress) (x : List Event × Rest) (p : Plan) where
     after-acts : (p₁ : Plan) → emitEvents put modes held (x .0) p ≡ ok p₁ → (b : Answer (List Event × Rest)) → ActsOn out₂ w₂ r p₁ b → ActsOn out₂ w₂ r p (b >>= (λ y. ok (joined x y)))
     unfolding _>>=_
     after-acts p₁ e (ok y) d = rw (emit-append put modes held (x .0) (y .0) p, e) d
@@ -82,7 +82,7 @@ module _ (put : Bool) (modes : ℕ) (held : ℕ → Held) (pool rows : List ℕ)
 
 module _ {put : Bool} {modes : ℕ} {held : ℕ → Held} {pool rows : List ℕ} where
   -- one step after another
-  pub seqs : {out w out₁ w₁ out₂ w₂ : List ℕ} {core i₁ core₁ : ℕ} {r r₁ : Step} (a : Answer (List Event × Rest)) (f : Fit)
+  pub seqs : {out w out₁ w₁ out₂ w₂ : List ℕ} {core i₁ core₁ : ℕ} {r r₁ : Progress} (a : Answer (List Event × Rest)) (f : Fit)
       → Writes put modes held pool rows out w core out₁ w₁ r₁ a → r₁ ≡ Done i₁ core₁ → Writes put modes held pool rows out₁ w₁ core₁ out₂ w₂ r (f (restOf pool rows i₁))
       → Writes put modes held pool rows out w core out₂ w₂ r (a >>= (λ x. f (x .1) >>= (λ y. ok (joined x y))))
   unfolding _>>=_
@@ -104,7 +104,7 @@ module _ {put : Bool} {modes : ℕ} {held : ℕ → Held} {pool rows : List ℕ}
       by (refuse n j) t = λ z. apart q (t z)
 
   -- nothing after a refusal
-  pub seqs-not : {out w out₁ w₁ : List ℕ} {core n j : ℕ} {r : Step} (a : Answer (List Event × Rest)) (f : Fit)
+  pub seqs-not : {out w out₁ w₁ : List ℕ} {core n j : ℕ} {r : Progress} (a : Answer (List Event × Rest)) (f : Fit)
       → Writes put modes held pool rows out w core out₁ w₁ r a → r ≡ Refused n j → Writes put modes held pool rows out w core out₁ w₁ r (a >>= (λ x. f (x .1) >>= (λ y. ok (joined x y))))
   unfolding _>>=_
   seqs-not {out} {w} {out₁} {w₁} {core} {n} {j} {r} a f d q = record { left = d .left; acts = by a (d .acts) }

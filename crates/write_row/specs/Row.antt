@@ -15,13 +15,14 @@ use Rattle.write_passes.specs.Plan.{emitEvent}
 use Rattle.write_passes.specs.Laws.{emit-one}
 use Rattle.write_passes.specs.Moves.{bodySize, within-event}
 use Rattle.write_passes.specs.Moves as moves
-use Rattle.write_bytes.specs.declared.Step as emitted
+use Rattle.write_bytes.specs.declared.Put.{Put}
+use Rattle.write_bytes.specs.declared.Put.the-variants.{To, Full}
 use Rattle.write_bytes.specs.State.{planOf, Within, Does}
 use Rattle.write_bytes.specs.Does.{does-done, does-refused}
 use Rattle.table.specs.declared.nodes.Leaf as code
 use Rattle.wire_types.specs.Typed.{isNullable}
-use Rattle.write_row.specs.declared.Step.{Step}
-use Rattle.write_row.specs.declared.Step.the-variants.{Done, Refused}
+use Rattle.write_row.specs.declared.Progress.{Progress}
+use Rattle.write_row.specs.declared.Progress.the-variants.{Done, Refused}
 use Rattle.write_row.specs.declared.Pass.{Pass}
 use Rattle.write_row.specs.declared.Opening.{Opening}
 use Rattle.write_row.specs.declared.Opening.the-variants.{Gone, Here}
@@ -30,14 +31,14 @@ use Rattle.write_row.specs.Opens.{fitValue}
 use Rattle.write_row.specs.Writes.{mostBefore, Holds, Writes}
 
 -- the row is done once what it writes is
-abbrev pub nextStep : ℕ → emitted.Step → Step
-nextStep i (emitted.the-variants.Done core) = Done (i + 1) core
-nextStep i (emitted.the-variants.Refused n) = Refused n 0
+abbrev pub rowProgress : ℕ → Put → Progress
+rowProgress i (To core) = Done (i + 1) core
+rowProgress i Full = Refused 43 0
 
 -- A row that fits and writes the event e.
-module _ {put : Bool} {modes : ℕ} {held : ℕ → Held} {pool rows out w out′ w′ : List ℕ} {i core : ℕ} {e : Event} {s : emitted.Step} (h : Holds pool rows w i core) (t : i < rowCount rows) (short : bodySize (e .body) ≤ 65536)
+module _ {put : Bool} {modes : ℕ} {held : ℕ → Held} {pool rows out w out′ w′ : List ℕ} {i core : ℕ} {e : Event} {s : Put} (h : Holds pool rows w i core) (t : i < rowCount rows) (short : bodySize (e .body) ≤ 65536)
     (d : Does pool w w′ out′ s (emitEvent put modes held e (planOf pool out w core))) where
-  row-done : {core′ : ℕ} → s ≡ emitted.the-variants.Done core′ → Writes put modes held pool rows out w core out′ w′ (Done (i + 1) core′) (ok (e ∷ [], restOf pool rows (i + 1)))
+  row-done : {core′ : ℕ} → s ≡ To core′ → Writes put modes held pool rows out w core out′ w′ (Done (i + 1) core′) (ok (e ∷ [], restOf pool rows (i + 1)))
   row-done {core′} q =
       let l = does-done _ d q in
       let p₁ = planOf pool out′ w′ core′ in
@@ -47,29 +48,27 @@ module _ {put : Bool} {modes : ℕ} {held : ℕ → Held} {pool rows out w out�
         acts = rw (emit-one put modes held e (planOf pool out w core) ∙ l .is) (refl, refl, refl);
       }
 
-  row-full : {n : ℕ} → s ≡ emitted.the-variants.Refused n → Writes put modes held pool rows out w core out′ w′ (Refused n 0) (ok (e ∷ [], restOf pool rows (i + 1)))
-  row-full q =
-      let (j, x) = does-refused _ d q in
-      record { left = tt; acts = rw (emit-one put modes held e (planOf pool out w core) ∙ x) tt }
+  row-full : s ≡ Full → Writes put modes held pool rows out w core out′ w′ (Refused 43 0) (ok (e ∷ [], restOf pool rows (i + 1)))
+  row-full q = record { left = tt; acts = rw (emit-one put modes held e (planOf pool out w core) ∙ does-refused _ d q) tt }
 
-  pub row-writes : {r : Step} → r ≡ nextStep i s → Writes put modes held pool rows out w core out′ w′ r (ok (e ∷ [], restOf pool rows (i + 1)))
+  pub row-writes : {r : Progress} → r ≡ rowProgress i s → Writes put modes held pool rows out w core out′ w′ r (ok (e ∷ [], restOf pool rows (i + 1)))
   row-writes q = rw q (go s refl)
     where
-      go : (s₁ : emitted.Step) → s ≡ s₁ → Writes put modes held pool rows out w core out′ w′ (nextStep i s₁) (ok (e ∷ [], restOf pool rows (i + 1)))
-      go (emitted.the-variants.Done core′) z = row-done z
-      go (emitted.the-variants.Refused n) z = row-full z
+      go : (s₁ : Put) → s ≡ s₁ → Writes put modes held pool rows out w core out′ w′ (rowProgress i s₁) (ok (e ∷ [], restOf pool rows (i + 1)))
+      go (To core′) z = row-done z
+      go Full z = row-full z
 
 -- Of a function that has nothing to do with the work: for any that holds a plan.
-pub record WritesRow (put : Bool) (pool rows out out′ : List ℕ) (i core : ℕ) (r : Step) (a : Answer (List Event × Rest)) : Type 0 where
+pub record WritesRow (put : Bool) (pool rows out out′ : List ℕ) (i core : ℕ) (r : Progress) (a : Answer (List Event × Rest)) : Type 0 where
   pub writes : (modes : ℕ) (held : ℕ → Held) (w : List ℕ) → Holds pool rows w i core → Writes put modes held pool rows out w core out′ w r a
 
 -- of a label alone, for any rows
-pub record Marks (put : Bool) (out out′ : List ℕ) (i core : ℕ) (r : Step) (l : ℤ) : Type 0 where
+pub record Marks (put : Bool) (out out′ : List ℕ) (i core : ℕ) (r : Progress) (l : ℤ) : Type 0 where
   pub writes : (pool rows : List ℕ) → i < rowCount rows → WritesRow put pool rows out out′ i core r (ok (mark l ∷ [], restOf pool rows (i + 1)))
 
 -- What stands in front of a value: the whole of it has been done; or nothing has, and the value itself is to come.
 module _ (put omittable nullable : Bool) (pool rows out out′ : List ℕ) (i core : ℕ) where
-  pub record OpensGone (r : Step) : Type 0 where
+  pub record OpensGone (r : Progress) : Type 0 where
     pub writes : (held : ℕ → Held) (v : Node) → isNullable v ≡ nullable → WritesRow put pool rows out out′ i core r (fitValue held omittable v (restOf pool rows i))
 
   pub record OpensHere (labelled : Bool) : Type 0 where
@@ -81,10 +80,10 @@ module _ (put omittable nullable : Bool) (pool rows out out′ : List ℕ) (i co
   Opens (Here labelled) = OpensHere labelled
 
 -- A value of a key, in any modes that are InlineEverything or not; and a text, where they number the key's literals or not.
-pub record WritesValue (how : Pass) (pool rows out w : List ℕ) (core : ℕ) (out′ w′ : List ℕ) (r : Step) (a : Answer (List Event × Rest)) : Type 0 where
+pub record WritesValue (how : Pass) (pool rows out w : List ℕ) (core : ℕ) (out′ w′ : List ℕ) (r : Progress) (a : Answer (List Event × Rest)) : Type 0 where
   pub writes : (modes : ℕ) (held : ℕ → Held) → inlineEverything modes ≡ how .inline → Writes (how .put) modes held pool rows out w core out′ w′ r a
 
-pub record WritesText (how : Pass) (numbered : Bool) (key : ℕ) (pool rows out w : List ℕ) (core : ℕ) (out′ w′ : List ℕ) (r : Step) (a : Answer (List Event × Rest)) : Type 0 where
+pub record WritesText (how : Pass) (numbered : Bool) (key : ℕ) (pool rows out w : List ℕ) (core : ℕ) (out′ w′ : List ℕ) (r : Progress) (a : Answer (List Event × Rest)) : Type 0 where
   pub writes : (modes : ℕ) (held : ℕ → Held) → inlineEverything modes ≡ how .inline → isNumbered modes (held key) ≡ numbered → Writes (how .put) modes held pool rows out w core out′ w′ r a
 
 -- what a key holds, from the code's name for it

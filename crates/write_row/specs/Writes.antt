@@ -10,8 +10,8 @@ use Rattle.format.specs.Write.{Event, Rest}
 use Rattle.write_passes.specs.Plan.{Plan, emitEvents}
 use Rattle.write_bytes.specs.State.{planOf, Ready, Within}
 use Rattle.store.specs.Same.{Same}
-use Rattle.write_row.specs.declared.Step.{Step}
-use Rattle.write_row.specs.declared.Step.the-variants.{Done, Refused}
+use Rattle.write_row.specs.declared.Progress.{Progress}
+use Rattle.write_row.specs.declared.Progress.the-variants.{Done, Refused}
 use Rattle.write_row.specs.Rest.{restOf}
 
 -- How far the core and each block go at most, before row i. While the message is written all begins within its 65,536 bytes; a row adds two labels and a text at most.
@@ -25,9 +25,9 @@ pub record Holds (pool rows w : List ℕ) (i core : ℕ) : Type 0 where
   pub inside : i ≤ rowCount rows
   pub few : rowCount rows ≤ 8192
 
-module _ (pool rows out′ w′ : List ℕ) (r : Step) where
+module _ (pool rows out′ w′ : List ℕ) (r : Progress) where
   -- So does a step that is done, and the words below 1,024 stay.
-  abbrev pub Left : List ℕ → Step → Type 0
+  abbrev pub Left : List ℕ → Progress → Type 0
   Left w (Done i core) = Holds pool rows w′ i core × Same w w′
   Left w (Refused e j) = Unit {0}
 
@@ -43,6 +43,6 @@ module _ (pool rows out′ w′ : List ℕ) (r : Step) where
     Acts p (refuse e j) = put ≡ false → r ≡ Refused e j
 
 -- A step that began with the output out, the work w and the core at `core`, and ended with out′ and w′.
-pub record Writes (put : Bool) (modes : ℕ) (held : ℕ → Held) (pool rows out w : List ℕ) (core : ℕ) (out′ w′ : List ℕ) (r : Step) (a : Answer (List Event × Rest)) : Type 0 where
+pub record Writes (put : Bool) (modes : ℕ) (held : ℕ → Held) (pool rows out w : List ℕ) (core : ℕ) (out′ w′ : List ℕ) (r : Progress) (a : Answer (List Event × Rest)) : Type 0 where
   pub left : Left pool rows out′ w′ r w r
   pub acts : Acts pool rows out′ w′ r put modes held (planOf pool out w core) a

@@ -12,7 +12,7 @@ ghost use Rattle.write_row.specs.Fits.{textRow, textLeaf};
 ghost use Rattle.write_row.specs.Writes.{Holds};
 ghost use Rattle.write_row.specs.Row.{WritesValue, WritesText, leafOf, isJudged};
 use super::Pass;
-use super::Step;
+use super::Progress;
 use super::next;
 use super::row;
 use super::row::Word;
@@ -22,12 +22,12 @@ use table::nodes::Leaf;
 use write_bytes::event;
 use write_bytes::text;
 
-// A text that is spared is not judged.
-fn passes(pool: &[u8], spared: bool, start: usize, end: usize) -> bool
+// Whether a text may be written: it is UTF-8, or `exempt` says that it is not to be judged.
+fn passes(pool: &[u8], exempt: bool, start: usize, end: usize) -> bool
     requires { ⌜ end ≤ length (now pool) ⌝ }
-    ensures { λ r. ⌜ r ≡ (spared || isText (slice start end (now (pool .entry)))) ⌝ }
+    ensures { λ r. ⌜ r ≡ (exempt || isText (slice start end (now (pool .entry)))) ⌝ }
 {
-    if spared {
+    if exempt {
         return true;
     }
     utf8::is_text(pool, start, end)
@@ -52,7 +52,7 @@ fn kind_of(judged: bool) -> u64
     kind::BYTES
 }
 
-// A STRING, whose text is judged, or BYTES. Only the pass that counts judges: the one that puts comes after it.
+// A STRING, whose text is judged, or BYTES. The pass that puts does not judge again: the one that counts has done so.
 fn text(
     rows: &[u64],
     pool: &[u8],
@@ -64,15 +64,15 @@ fn text(
     key: usize,
     i: usize,
     core: usize,
-) -> Step
+) -> Progress
     requires { ⌜ (Holds (now pool) (now rows) (now work) i core) × (key < 32) ⌝ }
     ensures { λ r. ⌜ WritesText how numbered key (now (pool .entry)) (now (rows .entry)) (now (out .entry)) (now (work .entry)) core (now (out .exit)) (now (work .exit)) r (fitLeaf key (textLeaf judged) false (restOf (now (pool .entry)) (now (rows .entry)) i)) ⌝ }
 {
     let Placed::At(start, size) = rows::place_at(rows, pool, kind_of(judged), i) else {
-        return Step::Refused(42, i as u64);
+        return Progress::Refused(42, i as u64);
     };
     if !passes(pool, how.put | !judged, start, start + size) {
-        return Step::Refused(28, i as u64);
+        return Progress::Refused(28, i as u64);
     }
     next(
         i,
@@ -101,12 +101,12 @@ fn varint(
     key: usize,
     i: usize,
     core: usize,
-) -> Step
+) -> Progress
     requires { ⌜ (Holds (now pool) (now rows) (now work) i core) × (key < 32) ⌝ }
     ensures { λ r. ⌜ WritesValue how (now (pool .entry)) (now (rows .entry)) (now (out .entry)) (now (work .entry)) core (now (out .exit)) (now (work .exit)) r (fitLeaf key varint labelled (restOf (now (pool .entry)) (now (rows .entry)) i)) ⌝ }
 {
     let Word::Is(a) = row::word_at(rows, pool, kind::INTEGER, i) else {
-        return Step::Refused(42, i as u64);
+        return Progress::Refused(42, i as u64);
     };
     next(
         i,
@@ -124,12 +124,12 @@ fn float64(
     key: usize,
     i: usize,
     core: usize,
-) -> Step
+) -> Progress
     requires { ⌜ (Holds (now pool) (now rows) (now work) i core) × (key < 32) ⌝ }
     ensures { λ r. ⌜ WritesValue how (now (pool .entry)) (now (rows .entry)) (now (out .entry)) (now (work .entry)) core (now (out .exit)) (now (work .exit)) r (fitLeaf key float64 labelled (restOf (now (pool .entry)) (now (rows .entry)) i)) ⌝ }
 {
     let Word::Is(a) = row::word_at(rows, pool, kind::FLOAT, i) else {
-        return Step::Refused(42, i as u64);
+        return Progress::Refused(42, i as u64);
     };
     next(
         i,
@@ -148,15 +148,15 @@ fn fixed(
     n: usize,
     i: usize,
     core: usize,
-) -> Step
+) -> Progress
     requires { ⌜ (Holds (now pool) (now rows) (now work) i core) × (key < 32) ⌝ }
     ensures { λ r. ⌜ WritesValue how (now (pool .entry)) (now (rows .entry)) (now (out .entry)) (now (work .entry)) core (now (out .exit)) (now (work .exit)) r (fitLeaf key (fixed n) labelled (restOf (now (pool .entry)) (now (rows .entry)) i)) ⌝ }
 {
     let Placed::At(start, size) = rows::place_at(rows, pool, kind::FIXED, i) else {
-        return Step::Refused(42, i as u64);
+        return Progress::Refused(42, i as u64);
     };
     if size != n {
-        return Step::Refused(42, i as u64);
+        return Progress::Refused(42, i as u64);
     }
     next(
         i,
@@ -188,7 +188,7 @@ pub fn leaf(
     key: usize,
     i: usize,
     core: usize,
-) -> Step
+) -> Progress
     requires { ⌜ (Holds (now pool) (now rows) (now work) i core) × (key < 32) ⌝ }
     ensures { λ r. ⌜ WritesText how numbered key (now (pool .entry)) (now (rows .entry)) (now (out .entry)) (now (work .entry)) core (now (out .exit)) (now (work .exit)) r (fitLeaf key (leafOf leaf) labelled (restOf (now (pool .entry)) (now (rows .entry)) i)) ⌝ }
 {

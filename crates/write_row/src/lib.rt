@@ -3,18 +3,20 @@ ghost use mathlib.Core.Path.{_≡_};
 ghost use Prim.Native.Nat.{_+_, _<_, _≤_, _^_};
 ghost use Rattle.write_row.specs.Rest.{restOf};
 ghost use Rattle.write_row.specs.Opens.{fitTruth, fitRecord};
-ghost use Rattle.write_row.specs.Row.{nextStep, Marks, WritesRow, Opens};
+ghost use Rattle.write_row.specs.Row.{rowProgress, Marks, WritesRow, Opens};
 use row::Front;
+use row::Presence;
 use row::Truth;
 use row::Word;
 use rows::kind;
+use write_bytes::Put;
 use write_bytes::bytes;
 
 pub mod leaf;
 pub mod row;
 
-// The next row and how far the core goes then, or a refusal's number and second number.
-pub enum Step {
+// How far the writing has come: the next row, and where the core's next byte goes. Or a refusal's number and second number.
+pub enum Progress {
     Done(usize, usize),
     Refused(u64, u64),
 }
@@ -31,35 +33,42 @@ pub struct Pass {
 
 // A value that is not there and has been written so, or that was refused; or the value is here, with a label in front or none.
 pub enum Opening {
-    Gone(Step),
+    Gone(Progress),
     Here(bool),
 }
 
 // Row i is done once what it writes is.
-fn next(i: usize, step: write_bytes::Step) -> Step
+fn next(i: usize, put: Put) -> Progress
     requires { ⌜ i ≤ 8192 ⌝ }
-    ensures { λ r. ⌜ r ≡ nextStep i step ⌝ }
+    ensures { λ r. ⌜ r ≡ rowProgress i put ⌝ }
 {
-    match step {
-        write_bytes::Step::Done(core) => Step::Done(i + 1, core),
-        write_bytes::Step::Refused(number) => Step::Refused(number, 0),
-    }
+    let Put::To(core) = put else {
+        return Progress::Refused(43, 0);
+    };
+    Progress::Done(i + 1, core)
 }
 
 // A row that writes a label alone.
-pub fn mark(out: &mut [u8], put: bool, i: usize, core: usize, l: i64) -> Step
+pub fn mark(out: &mut [u8], put: bool, i: usize, core: usize, l: i64) -> Progress
     requires { ⌜ (i ≤ 8192) × (core < 2 ^ 32) ⌝ }
     ensures { λ r. ⌜ Marks put (now (out .entry)) (now (out .exit)) i core r l ⌝ }
 {
     next(i, bytes::put_label(out, put, core, l))
 }
 
-pub fn boolean(rows: &[u64], pool: &[u8], out: &mut [u8], put: bool, i: usize, core: usize) -> Step
+pub fn boolean(
+    rows: &[u64],
+    pool: &[u8],
+    out: &mut [u8],
+    put: bool,
+    i: usize,
+    core: usize,
+) -> Progress
     requires { ⌜ (i ≤ 8192) × (core < 2 ^ 32) ⌝ }
     ensures { λ r. ⌜ WritesRow put (now (pool .entry)) (now (rows .entry)) (now (out .entry)) (now (out .exit)) i core r (fitTruth (restOf (now (pool .entry)) (now (rows .entry)) i)) ⌝ }
 {
     let Truth::Is(t) = row::truth_at(rows, pool, i) else {
-        return Step::Refused(42, i as u64);
+        return Progress::Refused(42, i as u64);
     };
     if t {
         return mark(out, put, i, core, 1);
@@ -77,18 +86,18 @@ pub fn record(
     count: usize,
     i: usize,
     core: usize,
-) -> Step
+) -> Progress
     requires { ⌜ (i ≤ 8192) × (core < 2 ^ 32) ⌝ }
     ensures { λ r. ⌜ WritesRow put (now (pool .entry)) (now (rows .entry)) (now (out .entry)) (now (out .exit)) i core r (fitRecord count labelled (restOf (now (pool .entry)) (now (rows .entry)) i)) ⌝ }
 {
     let Word::Is(n) = row::word_at(rows, pool, kind::RECORD, i) else {
-        return Step::Refused(42, i as u64);
+        return Progress::Refused(42, i as u64);
     };
     if n != count as u64 {
-        return Step::Refused(42, i as u64);
+        return Progress::Refused(42, i as u64);
     }
     if !labelled {
-        return Step::Done(i + 1, core);
+        return Progress::Done(i + 1, core);
     }
     mark(out, put, i, core, 0)
 }
@@ -110,11 +119,12 @@ pub fn open_value(
     if !(omittable | nullable) {
         return Opening::Here(false);
     }
-    let front = row::front_at(rows, pool, omittable, nullable, i);
-    match front {
-        Front::Absent => Opening::Gone(mark(out, put, i, core, -2)),
-        Front::Null => Opening::Gone(mark(out, put, i, core, -1)),
-        Front::Here => Opening::Here(true),
-        Front::Not => Opening::Gone(Step::Refused(42, i as u64)),
+    let Front::Is(presence) = row::front_at(rows, pool, omittable, nullable, i) else {
+        return Opening::Gone(Progress::Refused(42, i as u64));
+    };
+    match presence {
+        Presence::Absent => Opening::Gone(mark(out, put, i, core, -2)),
+        Presence::Null => Opening::Gone(mark(out, put, i, core, -1)),
+        Presence::Here => Opening::Here(true),
     }
 }

@@ -22,10 +22,14 @@ pub enum Truth {
 }
 
 // Of a value that may be absent or null: which of them it is, or that it is here.
-pub enum Front {
+pub enum Presence {
     Absent,
     Null,
     Here,
+}
+
+pub enum Front {
+    Is(Presence),
     Not,
 }
 
@@ -71,17 +75,17 @@ pub fn front_at(rows: &[u64], pool: &[u8], omittable: bool, nullable: bool, i: u
     match seen {
         Seen::Absent => {
             if omittable {
-                return Front::Absent;
+                return Front::Is(Presence::Absent);
             }
-            Front::Here
+            Front::Is(Presence::Here)
         }
         Seen::Null => {
             if nullable {
-                return Front::Null;
+                return Front::Is(Presence::Null);
             }
-            Front::Here
+            Front::Is(Presence::Here)
         }
         Seen::Refused { number: _ } => Front::Not,
-        _ => Front::Here,
+        _ => Front::Is(Presence::Here),
     }
 }

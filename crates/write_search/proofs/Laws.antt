@@ -16,12 +16,13 @@ use Rattle.format.specs.Read.{nth}
 use Rattle.format.specs.Write.{sameText, further, firstEqual}
 use Rattle.laws.specs.Texts.{same-eq, same-refl}
 use Rattle.laws.specs.Facts.{by-bool, absurd-some, and-true, true-and}
+use Rattle.write_literals.specs.Store.{Literal}
 use Rattle.write_literals.specs.Words.{Meets}
 use Rattle.store.specs.Laws.{nth-there}
 use Rattle.write_search.specs.Parts.{part-length, part-at}
 use Rattle.write_search.specs.Hash.{hash}
 use Rattle.write_search.specs.Front.{Front, known, front, alike, common-is, front-short, alike-length, alike-agrees, unlike, front-met, front-passed}
-use Rattle.write_search.specs.Search.{placeOf, frontOf, secondWord, textOf, textsOf, Stands, Keeps}
+use Rattle.write_search.specs.Search.{placeOf, frontOf, secondWord, textOf, textsOf, IsLiteral, KeepsText}
 
 unequal : (a b : Text) → (a ≡ b → ⊥) → sameText a b ≡ false
 unequal a b d = go (sameText a b) refl
@@ -57,21 +58,21 @@ from-start v ts = go (firstEqual v ts)
     go none = refl
     go (some i) = rw zero-add
 
-text-next : (f : Place → Text) (ps : List Place) (j : ℕ) {p : Place} → nth ps j ≡ some p → drop j (map f ps) ≡ f p ∷ drop (suc j) (map f ps)
+text-next : (f : Literal → Text) (ps : List Literal) (j : ℕ) {p : Literal} → nth ps j ≡ some p → drop j (map f ps) ≡ f p ∷ drop (suc j) (map f ps)
 unfolding nth
 text-next f [] j e = absurd-some e
 text-next f (q ∷ ps) zero {p} e = rw (Option·some-injective q p e)
 text-next f (q ∷ ps) (suc j) e = text-next f ps j e
 
-module _ (pool : List ℕ) (v : Text) (ps : List Place) (j : ℕ) where
+module _ (pool : List ℕ) (v : Text) (ps : List Literal) (j : ℕ) where
   abbrev texts : List Text
   texts = textsOf pool ps
 
-  pub from-hit : {p : Place} → nth ps j ≡ some p → sameText v (textOf pool p) ≡ true → equalFrom v texts j ≡ some j
+  pub from-hit : {p : Literal} → nth ps j ≡ some p → sameText v (textOf pool p) ≡ true → equalFrom v texts j ≡ some j
   unfolding equalFrom shifted firstEqual
   from-hit h e = rw (text-next (textOf pool) ps j h, e, add-zero)
 
-  pub from-miss : {p : Place} → nth ps j ≡ some p → sameText v (textOf pool p) ≡ false → equalFrom v texts j ≡ equalFrom v texts (j + 1)
+  pub from-miss : {p : Literal} → nth ps j ≡ some p → sameText v (textOf pool p) ≡ false → equalFrom v texts j ≡ equalFrom v texts (j + 1)
   unfolding equalFrom shifted firstEqual further
   from-miss h e = rw (text-next (textOf pool) ps j h, e, add-one) (go (firstEqual v (drop (suc j) texts)))
     where
@@ -98,52 +99,52 @@ word-parts size near pairs word hs hn e =
     (omega arith, n .0, n .1)
 
 -- the two words against what is known of the text
-module _ (p x : Place) (near pairs : ℕ) where
+module _ (p : Place) (x : Literal) (near pairs : ℕ) where
   abbrev test : Bool
-  test = alike (p .size) (record { near = near; pairs = pairs }) (x .size % 131072) (frontOf x)
+  test = alike (p .size) (record { near = near; pairs = pairs }) (x .second % 131072) (frontOf x)
 
-  module _ (small : x .size < 2 ^ 32) where
-    words-told : test ≡ true → (x .size ≡ secondWord (p .size) near pairs) × (x .start / 131072 ≡ pairs / 8)
+  module _ (small : x .second < 2 ^ 32) where
+    words-told : test ≡ true → (x .second ≡ secondWord (p .size) near pairs) × (x .first / 131072 ≡ pairs / 8)
     unfolding alike
     words-told e =
-        let a = and-true (eqb (x .size % 131072) (p .size)) _ e in
-        let b = and-true (eqb (x .size / 131072 % 4096) near) _ (a .1) in
-        let s = eqb-true (x .size % 131072) (p .size) (a .0) in
-        let n = eqb-true (x .size / 131072 % 4096) near (b .0) in
-        let m = eqb-true (8 * (x .start / 131072) + x .size / 131072 / 4096) pairs (b .1) in
-        let l : x .size / 131072 / 4096 < 8 = omega arith in
-        let y : x .size / 131072 / 4096 ≡ pairs % 8 = omega arith in
-        let z : x .size / 131072 ≡ near + 4096 * (pairs % 8) = omega arith in
+        let a = and-true (eqb (x .second % 131072) (p .size)) _ e in
+        let b = and-true (eqb (x .second / 131072 % 4096) near) _ (a .1) in
+        let s = eqb-true (x .second % 131072) (p .size) (a .0) in
+        let n = eqb-true (x .second / 131072 % 4096) near (b .0) in
+        let m = eqb-true (8 * (x .first / 131072) + x .second / 131072 / 4096) pairs (b .1) in
+        let l : x .second / 131072 / 4096 < 8 = omega arith in
+        let y : x .second / 131072 / 4096 ≡ pairs % 8 = omega arith in
+        let z : x .second / 131072 ≡ near + 4096 * (pairs % 8) = omega arith in
         (omega arith, omega arith)
 
-    pub words-other : (x .size ≡ secondWord (p .size) near pairs → x .start / 131072 ≡ pairs / 8 → ⊥) → test ≡ false
+    pub words-other : (x .second ≡ secondWord (p .size) near pairs → x .first / 131072 ≡ pairs / 8 → ⊥) → test ≡ false
     words-other d = by-bool test (λ e. absurd (let t = words-told e in d (t .0) (t .1))) (λ e. e)
 
-  pub words-same : p .size < 131072 → near < 4096 → x .size ≡ secondWord (p .size) near pairs → x .start / 131072 ≡ pairs / 8 → test ≡ true
+  pub words-same : p .size < 131072 → near < 4096 → x .second ≡ secondWord (p .size) near pairs → x .first / 131072 ≡ pairs / 8 → test ≡ true
   unfolding alike
   words-same hs hn e f =
-      let w = word-parts (p .size) near pairs (x .size) hs hn e in
-      let m : 8 * (x .start / 131072) + x .size / 131072 / 4096 ≡ pairs = omega (arith, w .2) in
+      let w = word-parts (p .size) near pairs (x .second) hs hn e in
+      let m : 8 * (x .first / 131072) + x .second / 131072 / 4096 ≡ pairs = omega (arith, w .2) in
       true-and (eq-eqb _ _ (w .0)) (true-and (eq-eqb _ _ (w .1)) (eq-eqb _ _ m))
 
 -- what is so of the text at p behind j of the literals
-pub record Reached (pool : List ℕ) (p : Place) (xs : List Place) (j near pairs : ℕ) : Type 0 where
+pub record Reached (pool : List ℕ) (p : Place) (xs : List Literal) (j near pairs : ℕ) : Type 0 where
   pub equal : firstEqual (bytesAt pool p) (textsOf pool xs) ≡ equalFrom (bytesAt pool p) (textsOf pool xs) j
   pub learnt : front (bytesAt pool p) (textsOf pool xs) j ≡ record { near = near; pairs = pairs }
 
-pub reached-none : (pool : List ℕ) (p : Place) (xs : List Place) {h : ℕ} → h ≡ hash (bytesAt pool p) → Reached pool p xs 0 (h % 4096) (65536 + h / 4096)
+pub reached-none : (pool : List ℕ) (p : Place) (xs : List Literal) {h : ℕ} → h ≡ hash (bytesAt pool p) → Reached pool p xs 0 (h % 4096) (65536 + h / 4096)
 unfolding front
 reached-none pool p xs e = record { equal = from-start _ _; learnt = rw e }
 
 -- the text, and literal j
-pub record Turn (pool : List ℕ) (p : Place) (xs : List Place) (j near pairs : ℕ) (x : Place) : Type 0 where
+pub record Turn (pool : List ℕ) (p : Place) (xs : List Literal) (j near pairs : ℕ) (x : Literal) : Type 0 where
   pub inside : p .start + p .size ≤ length pool
   pub reached : Reached pool p xs j near pairs
   pub there : nth xs j ≡ some x
-  pub stands : Stands pool (textsOf pool xs) j x
+  pub stands : IsLiteral pool (textsOf pool xs) j x
   pub unmet : pairs < 98304
 
-module _ {pool : List ℕ} {p : Place} {xs : List Place} {j near pairs : ℕ} {x : Place} (t : Turn pool p xs j near pairs x) where
+module _ {pool : List ℕ} {p : Place} {xs : List Literal} {j near pairs : ℕ} {x : Literal} (t : Turn pool p xs j near pairs x) where
   abbrev v : Text
   v = bytesAt pool p
 
@@ -166,27 +167,27 @@ module _ {pool : List ℕ} {p : Place} {xs : List Place} {j near pairs : ℕ} {x
   unfolding nth
   text-there = go xs j (t .there)
     where
-      go : (xs : List Place) (j : ℕ) → nth xs j ≡ some x → getD (textsOf pool xs) j [] ≡ u
+      go : (xs : List Literal) (j : ℕ) → nth xs j ≡ some x → getD (textsOf pool xs) j [] ≡ u
       go [] j e = absurd-some e
       go (y ∷ ys) zero e = rw (Option·some-injective y x e)
       go (y ∷ ys) (suc j) e = go ys j e
 
   module _ (yes : asked ≡ true) where
-    pub same-size : x .size % 131072 ≡ p .size
+    pub same-size : x .second % 131072 ≡ p .size
     same-size = sym (part-length pool (placeOf x) (t .stands .inside)) ∙ alike-length ts v u j (is-asked ∙ yes) ∙ part-length pool p (t .inside)
 
-    pub known-same : (i : ℕ) → i < known pairs → getD pool (x .start % 131072 + i) 0 ≡ getD pool (p .start + i) 0
+    pub known-same : (i : ℕ) → i < known pairs → getD pool (x .first % 131072 + i) 0 ≡ getD pool (p .start + i) 0
     known-same i h =
         let e : known (front v ts j .pairs) ≡ known pairs = ap (λ (f : Front). known (f .pairs)) (t .reached .learnt) in
         let l : i < p .size = omega (arith, front-short ts v j, part-length pool p (t .inside)) in
         let s = same-size in
         sym (part-at pool (placeOf x) i (omega arith)) ∙ alike-agrees ts v u j (is-asked ∙ yes) i (omega arith) ∙ part-at pool p i l
 
-    module _ (k : ℕ) (equal : (i : ℕ) → i < k → getD pool (x .start % 131072 + i) 0 ≡ getD pool (p .start + i) 0) where
+    module _ (k : ℕ) (equal : (i : ℕ) → i < k → getD pool (x .first % 131072 + i) 0 ≡ getD pool (p .start + i) 0) where
       pub turn-hit : k ≡ p .size → firstEqual v ts ≡ some j
       turn-hit e = t .reached .equal ∙ from-hit pool v xs j (t .there) (parts-same pool p (placeOf x) (t .inside) (t .stands .inside) same-size (λ i h. equal i (omega arith)))
 
-      module _ (short : k < p .size) (differ : getD pool (x .start % 131072 + k) 0 ≡ getD pool (p .start + k) 0 → ⊥) where
+      module _ (short : k < p .size) (differ : getD pool (x .first % 131072 + k) 0 ≡ getD pool (p .start + k) 0 → ⊥) where
         turn-miss : sameText v u ≡ false
         turn-miss = parts-differ pool p (placeOf x) (t .inside) (t .stands .inside) same-size k short differ
 
@@ -211,8 +212,8 @@ module _ {pool : List ℕ} {p : Place} {xs : List Place} {j near pairs : ℕ} {x
   }
 
 -- all literals are passed that have another second word, or another upper part of the first
-module _ {pool : List ℕ} {p : Place} {xs : List Place} {near pairs j k first : ℕ} (inside : p .start + p .size ≤ length pool)
-    (stands : (i : ℕ) (x : Place) → nth xs i ≡ some x → Stands pool (textsOf pool xs) i x) (few : pairs < 98304) (s : Meets xs j (pairs / 8) (secondWord (p .size) near pairs) k first) where
+module _ {pool : List ℕ} {p : Place} {xs : List Literal} {near pairs j k first : ℕ} (inside : p .start + p .size ≤ length pool)
+    (stands : (i : ℕ) (x : Literal) → nth xs i ≡ some x → IsLiteral pool (textsOf pool xs) i x) (few : pairs < 98304) (s : Meets xs j (pairs / 8) (secondWord (p .size) near pairs) k first) where
   passed : (d : ℕ) → j + d ≤ k → Reached pool p xs j near pairs → Reached pool p xs (j + d) near pairs
   passed zero h r = rw add-zero r
   passed (suc d) h r =
@@ -231,7 +232,7 @@ module _ {pool : List ℕ} {p : Place} {xs : List Place} {near pairs j k first :
 
 -- the words to keep the text by
 pub keeps : (pool : List ℕ) (ts : List Text) (p : Place) {near pairs word : ℕ} → p .start < 131072 → p .size < 131072 → near < 4096 → word ≡ secondWord (p .size) near pairs
-    → front (bytesAt pool p) ts (length ts) ≡ record { near = near; pairs = pairs } → Keeps pool ts p (record { start = p .start + 131072 * (pairs / 8); size = word })
+    → front (bytesAt pool p) ts (length ts) ≡ record { near = near; pairs = pairs } → KeepsText pool ts p (record { first = p .start + 131072 * (pairs / 8); second = word })
 keeps pool ts p {near} {pairs} {word} hp hs hn q e =
     let a : (p .start + 131072 * (pairs / 8)) % 131072 ≡ p .start = omega arith in
     let c : (p .start + 131072 * (pairs / 8)) / 131072 ≡ pairs / 8 = omega arith in

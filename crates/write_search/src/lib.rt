@@ -8,7 +8,7 @@ ghost use Rattle.format.specs.Row.{bytesAt};
 ghost use Rattle.format.specs.Write.{firstEqual};
 ghost use Rattle.write_literals.specs.Words.{storeOf, Good};
 ghost use Rattle.write_search.specs.Hash.{word4 as word4Of, word8 as word8Of, few as fewOf, mixed as mixedOf, stride as strideOf, whole as wholeOf, ended as endedOf, hash as hashOf};
-ghost use Rattle.write_search.specs.Search.{number, secondWord, Inside, Small, Kept, textsOf};
+ghost use Rattle.write_search.specs.Search.{number, secondWord, AreLiterals, InWords, KeepAs, textsOf};
 
 // A kept word has a place in its bits below this one, and a part of the front above.
 const SPAN: usize = 131072;
@@ -157,10 +157,10 @@ fn alike_to(pool: &[u8], a: usize, b: usize, from: usize, size: usize) -> usize
 // The number of the key's first literal that equals the `size` bytes of the pool from `start`.
 // Bytes are compared only with a literal that is alike, from where they are not known to be equal.
 pub fn choose(pool: &[u8], work: &[u32], key: usize, start: usize, size: usize) -> Found
-    requires { ⌜ (Good (now work)) × (Inside (now pool) (storeOf (now work) .literals)) × (key < 32) × (start + size ≤ length (now pool)) × (length (now pool) ≤ 65536) ⌝ }
+    requires { ⌜ (Good (now work)) × (AreLiterals (now pool) (storeOf (now work) .literals)) × (key < 32) × (start + size ≤ length (now pool)) × (length (now pool) ≤ 65536) ⌝ }
     ensures { λ r. ⌜ number r ≡ firstEqual (bytesAt (now (pool .entry)) (record { start = start; size = size })) (textsOf (now (pool .entry)) (getD (storeOf (now (work .entry)) .literals) key [])) ⌝ }
-    ensures { λ r. ⌜ Small r ⌝ }
-    ensures { λ r. ⌜ Kept (now (pool .entry)) (textsOf (now (pool .entry)) (getD (storeOf (now (work .entry)) .literals) key [])) (record { start = start; size = size }) r ⌝ }
+    ensures { λ r. ⌜ InWords r ⌝ }
+    ensures { λ r. ⌜ KeepAs (now (pool .entry)) (textsOf (now (pool .entry)) (getD (storeOf (now (work .entry)) .literals) key [])) (record { start = start; size = size }) r ⌝ }
 {
     let n = store::count(work, key);
     let h = hash(pool, start, size);

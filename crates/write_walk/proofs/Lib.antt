@@ -1,6 +1,7 @@
 pub mod Loops
-pub mod Runs
-pub mod Values
+pub mod Several
+pub mod ByKind
+pub mod Owns
 pub mod Descents
-pub mod Groups
+pub mod Sequences
 pub mod Starts

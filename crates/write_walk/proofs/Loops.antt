@@ -16,15 +16,15 @@ use Rattle.laws.specs.Kinds.{node-top, by-no-field}
 use Rattle.store.specs.Words.{word}
 use Rattle.store.specs.Same.{Same, same-self, same-then}
 use Rattle.wire_types.specs.Typed.{Sized, heldIn, IsNode, AreFields, FitsNode, FitFields}
-use Rattle.wire_types.specs.Nodes.{node-kept, First, first-of, first-depth}
-use Rattle.write_row.specs.declared.Step.{Step}
-use Rattle.write_row.specs.declared.Step.the-variants.{Done, Refused}
+use Rattle.wire_types.specs.Nodes.{node-kept, fits-kept, First, first-of, first-deep, first-fits}
+use Rattle.write_row.specs.declared.Progress.{Progress}
+use Rattle.write_row.specs.declared.Progress.the-variants.{Done, Refused}
 use Rattle.write_row.specs.declared.Pass.{Pass}
 use Rattle.write_row.specs.Rest.{restOf}
 use Rattle.write_row.specs.Writes.{Holds, Writes}
 use Rattle.write_row.specs.Laws.{joined, along, ends, done-holds, done-same, seqs, seqs-not}
 use Rattle.write_row.specs.Opens.{fitValue}
-use Rattle.write_walk.specs.Pass.{Suits, Runs, WritesNode, WritesFields, WritesEntries}
+use Rattle.write_walk.specs.Pass.{Suits, WritesBy, WritesNode, WritesFields, WritesEntries}
 
 -- there are modes for every pass
 pub some-modes : (how : Pass) → (modes : ℕ) × Suits how modes
@@ -37,13 +37,13 @@ some-modes how = let (modes, i, n) = go (how .inline) (how .numbers) in (modes, 
     go false false = (32, refl, refl)
     go true false = (33, refl, refl)
 
-pub node-as : {how : Pass} {table pool rows out w : List ℕ} {core i node : ℕ} {out′ w′ : List ℕ} {r : Step} {o o₁ : Bool} → o ≡ o₁
+pub node-as : {how : Pass} {table pool rows out w : List ℕ} {core i node : ℕ} {out′ w′ : List ℕ} {r : Progress} {o o₁ : Bool} → o ≡ o₁
     → WritesNode how table pool rows out w core out′ w′ r i node o → WritesNode how table pool rows out w core out′ w′ r i node o₁
 node-as e d = rw (← e) d
 
 -- who does a₁ from the second place on has done a from the first on
 pub record Leads (put : Bool) (modes : ℕ) (held : ℕ → Held) (pool rows out w : List ℕ) (core : ℕ) (a : Answer (List Event × Rest)) (out₁ w₁ : List ℕ) (core₁ : ℕ) (a₁ : Answer (List Event × Rest)) : Type 0 where
-  pub onward : {out₂ w₂ : List ℕ} {r : Step} → Writes put modes held pool rows out₁ w₁ core₁ out₂ w₂ r a₁ → Writes put modes held pool rows out w core out₂ w₂ r a
+  pub onward : {out₂ w₂ : List ℕ} {r : Progress} → Writes put modes held pool rows out₁ w₁ core₁ out₂ w₂ r a₁ → Writes put modes held pool rows out w core out₂ w₂ r a
 
 pub leads-self : {put : Bool} {modes : ℕ} {held : ℕ → Held} {pool rows out w : List ℕ} {core : ℕ} {a : Answer (List Event × Rest)} → Leads put modes held pool rows out w core a out w core a
 leads-self = record { onward = λ d. d }
@@ -75,19 +75,16 @@ module _ (how : Pass) (table pool rows out₀ w₀ : List ℕ) (node count i₀ 
   entries-begin h = record { lent = refl; worked = refl; holds = h; same = same-self w₀; leads = λ modes s v h. leads-self }
 
   module _ (out w : List ℕ) (k i core : ℕ) (x : EntriesAt out w k i core) (whole : Sized table) where
-    pub entries-fits : {left : ℕ} → FitsNode table w₀ left node → FitsNode table w left node
-    entries-fits f = record { type = f .type; is = node-kept table w₀ w node (f .type) whole (x .same .at) (f .is); deep = f .deep; most = f .most }
-
     -- what the entry has done
-    entry-does : {out₁ w₁ : List ℕ} {r : Step} → WritesNode how table pool rows out w core out₁ w₁ r i node false
-        → (modes : ℕ) → Suits how modes → (v : Node) → IsNode table w₀ node v → Runs how table pool rows out w core out₁ w₁ r i modes (entry v)
+    entry-does : {out₁ w₁ : List ℕ} {r : Progress} → WritesNode how table pool rows out w core out₁ w₁ r i node false
+        → (modes : ℕ) → Suits how modes → (v : Node) → IsNode table w₀ node v → WritesBy how table pool rows out w core out₁ w₁ r i modes (entry v)
     entry-does y modes s v h = y .writes modes s v (node-kept table w₀ w node v whole (x .same .at) h)
 
-    pub entries-not : {out₁ w₁ : List ℕ} {r r′ : Step} {n j : ℕ} → (k ≡ 0 → ⊥) → WritesNode how table pool rows out w core out₁ w₁ r i node false → r ≡ Refused n j → r′ ≡ r
+    pub entries-not : {out₁ w₁ : List ℕ} {r r′ : Progress} {n j : ℕ} → (k ≡ 0 → ⊥) → WritesNode how table pool rows out w core out₁ w₁ r i node false → r ≡ Refused n j → r′ ≡ r
         → WritesEntries how table pool rows out₀ w₀ core₀ out₁ w₁ r′ i₀ node count
     entries-not z y q t = rw t (record { writes = λ modes s v h. x .leads modes s v h .onward (along (entries-some k (entry v) _ z) (seqs-not _ (fitEntries (k - 1) (entry v)) (entry-does y modes s v h) q)) })
 
-    pub entries-again : {left i₁ core₁ : ℕ} {out₁ w₁ : List ℕ} {r : Step} → FitsNode table w₀ left node → (k ≡ 0 → ⊥) → length out₁ ≡ length out → length w₁ ≡ length w
+    pub entries-again : {left i₁ core₁ : ℕ} {out₁ w₁ : List ℕ} {r : Progress} → FitsNode table w₀ left node → (k ≡ 0 → ⊥) → length out₁ ≡ length out → length w₁ ≡ length w
         → WritesNode how table pool rows out w core out₁ w₁ r i node false → r ≡ Done i₁ core₁ → EntriesAt out₁ w₁ (k - 1) i₁ core₁
     entries-again f z e₁ e₂ y q =
         let (modes, s) = some-modes how in
@@ -152,21 +149,18 @@ module _ (how : Pass) (table pool rows out₀ w₀ : List ℕ) (node₀ count i�
     pub fields-fits : {left : ℕ} → FitFields table w₀ left node₀ count → (k ≡ 0 → ⊥) → FitsNode table w left node
     fields-fits f z =
         let y = x .rest (f .types) (f .are) (f .counted) in
-        let u = first-at (f .types) y z in
-        let b = first-depth (omittable (nodeAt table node)) (u .first) (u .others) in
-        let s : depthFields (y .rest) ≡ depthFields (field (omittable (nodeAt table node)) (u .first) (u .others)) = ap depthFields (u .splits) in
-        record { type = u .first; is = first-here (f .types) y z; deep = omega (arith, b .0, y .deep, f .deep); most = f .most }
+        fits-kept {w = w₀} whole (x .same .at) (first-fits (record { types = y .rest; are = y .are; counted = y .counted; deep = omega (arith, y .deep, f .deep); most = f .most }) z)
 
-    module _ {out₁ w₁ : List ℕ} {r : Step} (d : WritesNode how table pool rows out w core out₁ w₁ r i node (omittable (nodeAt table node))) where
+    module _ {out₁ w₁ : List ℕ} {r : Progress} (d : WritesNode how table pool rows out w core out₁ w₁ r i node (omittable (nodeAt table node))) where
       field-does : (ws : Fields) (y : RestAt ws out w k node i core) (z : k ≡ 0 → ⊥) (modes : ℕ) → Suits how modes
-          → Runs how table pool rows out w core out₁ w₁ r i modes (fitValue (heldIn table) (omittable (nodeAt table node)) (first-at ws y z .first))
+          → WritesBy how table pool rows out w core out₁ w₁ r i modes (fitValue (heldIn table) (omittable (nodeAt table node)) (first-at ws y z .first))
       field-does ws y z modes s = d .writes modes s (first-at ws y z .first) (first-here ws y z)
 
       rest-some : (ws : Fields) (y : RestAt ws out w k node i core) (z : k ≡ 0 → ⊥) (t : Rest)
           → fitAll (heldIn table) (y .rest) t ≡ (fitValue (heldIn table) (omittable (nodeAt table node)) (first-at ws y z .first) t >>= (λ u. fitAll (heldIn table) (first-at ws y z .others) (u .1) >>= (λ v. ok (joined u v))))
       rest-some ws y z t = ap (λ vs. fitAll (heldIn table) vs t) (first-at ws y z .splits) ∙ all-some (heldIn table) _ _ _ t
 
-      pub fields-not : {r′ : Step} {n j : ℕ} → (k ≡ 0 → ⊥) → r ≡ Refused n j → r′ ≡ r → WritesFields how table pool rows out₀ w₀ core₀ out₁ w₁ r′ i₀ node₀ count
+      pub fields-not : {r′ : Progress} {n j : ℕ} → (k ≡ 0 → ⊥) → r ≡ Refused n j → r′ ≡ r → WritesFields how table pool rows out₀ w₀ core₀ out₁ w₁ r′ i₀ node₀ count
       fields-not z q t = rw t (record {
         writes = λ modes s ws a e.
             let y = x .rest ws a e in
@@ -187,9 +181,7 @@ module _ (how : Pass) (table pool rows out₀ w₀ : List ℕ) (node₀ count i�
         rest-again : {node₁ : ℕ} → node₁ ≡ word w node → (ws : Fields) (y : RestAt ws out w k node i core) → RestAt ws out₁ w₁ (k - 1) node₁ i₁ core₁
         rest-again e ws y =
             let u = first-at ws y z in
-            let b = first-depth (omittable (nodeAt table node)) (u .first) (u .others) in
-            let c : fieldCount (y .rest) ≡ fieldCount (field (omittable (nodeAt table node)) (u .first) (u .others)) = ap fieldCount (u .splits) in
-            let t : depthFields (y .rest) ≡ depthFields (field (omittable (nodeAt table node)) (u .first) (u .others)) = ap depthFields (u .splits) in
+            let b = first-deep u in
             record {
               rest = u .others;
               are = subst (λ n. AreFields table w₀ n (u .others)) (sym (next-node e ws y)) (u .are);

@@ -1,6 +1,7 @@
 -- What a pass over the rows does.
 pub mod Pass
-pub mod Onward
+pub mod Own
+pub mod Remaining
 pub mod Descent
-pub mod Group
+pub mod Sequence
 pub mod Start

@@ -8,8 +8,11 @@ use Rattle.format.specs.Table.{Wire, Node, Fields}
 use Rattle.format.specs.Read.{fieldCount}
 use Rattle.format.specs.Write.{Fit, fitEntries, fitWire, fitAll}
 use Rattle.wire_types.specs.Typed.{heldIn, IsNode, IsWire, AreFields}
-use Rattle.write_row.specs.declared.Step.{Step}
+use Rattle.write_row.specs.declared.Progress.{Progress}
+use Rattle.write_row.specs.declared.Progress.the-variants.{Done}
 use Rattle.write_row.specs.declared.Pass.{Pass}
+use Rattle.write_row.specs.declared.Opening.{Opening}
+use Rattle.write_row.specs.declared.Opening.the-variants.{Gone, Here}
 use Rattle.write_row.specs.Rest.{restOf}
 use Rattle.write_row.specs.Writes.{Writes}
 use Rattle.write_row.specs.Opens.{fitValue}
@@ -20,25 +23,30 @@ pub record Suits (how : Pass) (modes : ℕ) : Type 0 where
   pub numbers : not (noDeduplication modes) ≡ how .numbers
 
 -- The buffers before and after a step that began at row i with the core at `core`.
-module _ (how : Pass) (table pool rows out w : List ℕ) (core : ℕ) (out′ w′ : List ℕ) (r : Step) (i : ℕ) where
+module _ (how : Pass) (table pool rows out w : List ℕ) (core : ℕ) (out′ w′ : List ℕ) (r : Progress) (i : ℕ) where
   -- it has written what f writes
-  abbrev pub Runs : ℕ → Fit → Type 0
-  Runs modes f = Writes (how .put) modes (heldIn table) pool rows out w core out′ w′ r (f (restOf pool rows i))
+  abbrev pub WritesBy : ℕ → Fit → Type 0
+  WritesBy modes f = Writes (how .put) modes (heldIn table) pool rows out w core out′ w′ r (f (restOf pool rows i))
 
   module _ (node : ℕ) where
     pub record WritesNode (omittable : Bool) : Type 0 where
-      pub writes : (modes : ℕ) → Suits how modes → (v : Node) → IsNode table w node v → Runs modes (fitValue (heldIn table) omittable v)
+      pub writes : (modes : ℕ) → Suits how modes → (v : Node) → IsNode table w node v → WritesBy modes (fitValue (heldIn table) omittable v)
 
     pub record WritesWire (labelled : Bool) : Type 0 where
-      pub writes : (modes : ℕ) → Suits how modes → (v : Wire) → IsWire table w node v → Runs modes (fitWire (heldIn table) v labelled)
+      pub writes : (modes : ℕ) → Suits how modes → (v : Wire) → IsWire table w node v → WritesBy modes (fitWire (heldIn table) v labelled)
 
     pub record WritesFields (count : ℕ) : Type 0 where
-      pub writes : (modes : ℕ) → Suits how modes → (ws : Fields) → AreFields table w node ws → fieldCount ws ≡ count → Runs modes (fitAll (heldIn table) ws)
+      pub writes : (modes : ℕ) → Suits how modes → (ws : Fields) → AreFields table w node ws → fieldCount ws ≡ count → WritesBy modes (fitAll (heldIn table) ws)
 
     pub record WritesEntries (count : ℕ) : Type 0 where
-      pub writes : (modes : ℕ) → Suits how modes → (v : Node) → IsNode table w node v → Runs modes (fitEntries count (λ t. fitValue (heldIn table) false v t))
+      pub writes : (modes : ℕ) → Suits how modes → (v : Node) → IsNode table w node v → WritesBy modes (fitEntries count (λ t. fitValue (heldIn table) false v t))
 
     -- so many values by one loop: entries or fields
-    pub record WritesRun (repeated : Bool) (count : ℕ) : Type 0 where
+    pub record WritesValues (repeated : Bool) (count : ℕ) : Type 0 where
       pub entries : repeated ≡ true → WritesEntries count
       pub fields : repeated ≡ false → WritesFields count
+
+-- what has been done of a value so far
+abbrev pub soFar : Opening → ℕ → ℕ → Progress
+soFar (Gone r) i core = r
+soFar (Here labelled) i core = Done i core

@@ -4,10 +4,12 @@ ghost use Prim.Native.Nat.{_+_, _*_, _^_, _≤_, _<_};
 ghost use lib.ListN.{length};
 ghost use Rattle.format.specs.Row.{integerRow};
 ghost use Rattle.wire_types.specs.Typed.{Sized};
-ghost use Rattle.write_walk.specs.Descent.{IsOne, Alone, Enters, Stands, Descends, stepOf};
+ghost use Rattle.write_walk.specs.Descent.{IsOne, Alone, Stands, Descends, stepOf};
+use super::own;
+use super::own::Own;
 use rows::kind;
 use table::nodes;
-use write_row::Step;
+use write_row::Progress;
 use write_row::row;
 use write_row::row::Word;
 
@@ -21,7 +23,7 @@ pub enum Holder {
 // the core goes. Or a refusal on the way.
 pub enum Descent {
     To(usize, bool, usize, usize),
-    Stop(Step),
+    Stop(Progress),
 }
 
 // Of a row of this kind, whether its word is 1.
@@ -35,6 +37,7 @@ fn is_one(rows: &[u64], pool: &[u8], kind: u64, i: usize) -> bool
     n == 1
 }
 
+// This says only where to go on: the row is judged by `own_row`, as that of any other record or array.
 fn holds_one(table: &[u8], rows: &[u64], pool: &[u8], node: usize, i: usize) -> Holder
     requires { ⌜ 11 + 4 * node ≤ length (now table) ⌝ }
     ensures { λ r. ⌜ Alone (now (table .entry)) (now (pool .entry)) (now (rows .entry)) node i r ⌝ }
@@ -56,18 +59,7 @@ fn holds_one(table: &[u8], rows: &[u64], pool: &[u8], node: usize, i: usize) -> 
     Holder::Not
 }
 
-// A record of one field writes nothing of its own; an array of one entry its label.
-fn enter(out: &mut [u8], put: bool, array: bool, i: usize, core: usize) -> Step
-    requires { ⌜ (i ≤ 8192) × (core < 2 ^ 32) ⌝ }
-    ensures { λ r. ⌜ Enters put (now (out .entry)) (now (out .exit)) i core r array ⌝ }
-{
-    if array {
-        return write_row::mark(out, put, i, core, 1);
-    }
-    Step::Done(i + 1, core)
-}
-
-// A value that may be absent is not gone into: what stands in front of it has to be looked at first.
+// This stops at a value that may be absent: its row says first whether it is.
 pub fn descend(
     table: &[u8],
     rows: &[u64],
@@ -91,9 +83,9 @@ pub fn descend(
         let Holder::One(array) = h else {
             return Descent::To(at, false, n, end);
         };
-        let r = enter(out, put, array, n, end);
-        let Step::Done(next, further) = r else {
-            return Descent::Stop(super::again(r));
+        let held = own::own_row(table, rows, pool, out, put, array, false, at, n, end);
+        let Own::Values(_, next, further) = held else {
+            return Descent::Stop(own::step(held));
         };
         at += 1;
         n = next;
@@ -103,12 +95,12 @@ pub fn descend(
     Descent::To(at, true, n, end)
 }
 
-// The step that a refusal is.
-pub fn step(d: Descent) -> Step
+// The answer, where a row was refused.
+pub fn step(d: Descent) -> Progress
     ensures { λ r. ⌜ r ≡ stepOf d ⌝ }
 {
     match d {
         Descent::Stop(r) => r,
-        Descent::To(_, _, next, core) => Step::Done(next, core),
+        Descent::To(_, _, next, core) => Progress::Done(next, core),
     }
 }

@@ -8,28 +8,37 @@ ghost use Rattle.format.specs.Table.{nodeAt, RECORD, ARRAY, BLOCK};
 ghost use Rattle.wire_types.specs.Typed.{Sized, FitsNode, FitsWire};
 ghost use Rattle.wire_types.specs.Run.{FitRun};
 ghost use Rattle.write_row.specs.Writes.{Holds};
-ghost use Rattle.write_walk.specs.Pass.{WritesNode, WritesWire, WritesRun};
-ghost use Rattle.write_walk.specs.Group.{FitGroup, WritesGroup};
+ghost use Rattle.write_walk.specs.Pass.{WritesNode, WritesWire, WritesValues, soFar};
+ghost use Rattle.write_walk.specs.Sequence.{FitSequence, WritesSequence};
 use descent::Descent;
-use rows::kind;
+use own::Own;
 use start::Start;
 use table::nodes;
 use write_row::Opening;
 use write_row::Pass;
-use write_row::Step;
-use write_row::row;
-use write_row::row::Word;
+use write_row::Progress;
 
 pub mod descent;
+pub mod own;
 pub mod start;
 
 // The same answer, made anew: a copy of it would go through memory, which takes longer.
-fn again(r: Step) -> Step
+fn again(r: Progress) -> Progress
     ensures { λ same. ⌜ same ≡ r ⌝ }
 {
     match r {
-        Step::Refused(number, second) => Step::Refused(number, second),
-        Step::Done(next, core) => Step::Done(next, core),
+        Progress::Refused(number, second) => Progress::Refused(number, second),
+        Progress::Done(next, core) => Progress::Done(next, core),
+    }
+}
+
+// A value that is absent or null is done, or was refused; of one that is here nothing has been done yet.
+fn so_far(first: Opening, i: usize, core: usize) -> Progress
+    ensures { λ r. ⌜ r ≡ soFar first i core ⌝ }
+{
+    match first {
+        Opening::Gone(r) => r,
+        Opening::Here(_) => Progress::Done(i, core),
     }
 }
 
@@ -45,7 +54,7 @@ fn block(
     node: usize,
     i: usize,
     core: usize,
-) -> Step
+) -> Progress
     requires { ⌜ (Holds (now pool) (now rows) (now work) i core) × (nodeAt (now table) node .kind ≡ BLOCK) × (nodeAt (now table) node .argument < 32) × (15 + 4 * node ≤ length (now table)) ⌝ }
     ensures { λ r. ⌜ WritesWire how (now (table .entry)) (now (pool .entry)) (now (rows .entry)) (now (out .entry)) (now (work .entry)) core (now (out .exit)) (now (work .exit)) r i node labelled ⌝ }
 {
@@ -67,7 +76,8 @@ fn block(
     )
 }
 
-// The value at a node. What a record or an array holds stands behind its own node, so that this ends.
+// The value at a node. A path may have `left` nodes from this one on, itself among them: 32 at the root, and one less below
+// each node. A checked table has no longer one, so that this ends.
 fn value(
     table: &[u8],
     rows: &[u64],
@@ -79,19 +89,31 @@ fn value(
     node: usize,
     i: usize,
     core: usize,
-) -> Step
-    requires { ⌜ (Holds (now pool) (now rows) (now work) i core) × Sized (now table) × FitsNode (now table) (now work) 32 node ⌝ }
+    left: usize,
+) -> Progress
+    requires { ⌜ (Holds (now pool) (now rows) (now work) i core) × Sized (now table) × FitsNode (now table) (now work) left node ⌝ }
     ensures { λ r. ⌜ WritesNode how (now (table .entry)) (now (pool .entry)) (now (rows .entry)) (now (out .entry)) (now (work .entry)) core (now (out .exit)) (now (work .exit)) r i node omittable ⌝ }
 {
     let nullable = nodes::kind_at(table, node) == nodes::NULLABLE;
     let first = write_row::open_value(rows, pool, out, how.put, omittable, nullable, i, core);
-    match first {
-        Opening::Gone(step) => step,
-        Opening::Here(labelled) => {
-            let own = wire_types::below(nullable, node);
-            wire(table, rows, pool, out, work, how, labelled, own, i, core)
-        }
-    }
+    let Opening::Here(labelled) = first else {
+        return so_far(first, i, core);
+    };
+    let own = wire_types::below(nullable, node);
+    let path = wire_types::path_below(nullable, left);
+    wire(
+        table,
+        rows,
+        pool,
+        out,
+        work,
+        how,
+        labelled,
+        own,
+        i,
+        core,
+        path,
+    )
 }
 
 // By the kind of the value's own node, the commonest first.
@@ -106,8 +128,9 @@ fn wire(
     node: usize,
     i: usize,
     core: usize,
-) -> Step
-    requires { ⌜ (Holds (now pool) (now rows) (now work) i core) × Sized (now table) × FitsWire (now table) (now work) 32 node ⌝ }
+    left: usize,
+) -> Progress
+    requires { ⌜ (Holds (now pool) (now rows) (now work) i core) × Sized (now table) × FitsWire (now table) (now work) left node ⌝ }
     ensures { λ r. ⌜ WritesWire how (now (table .entry)) (now (pool .entry)) (now (rows .entry)) (now (out .entry)) (now (work .entry)) core (now (out .exit)) (now (work .exit)) r i node labelled ⌝ }
 {
     let kind = nodes::kind_at(table, node);
@@ -118,9 +141,21 @@ fn wire(
         return write_row::boolean(rows, pool, out, how.put, i, core);
     }
     if kind == nodes::RECORD {
-        return record(table, rows, pool, out, work, how, labelled, node, i, core);
+        return record(
+            table,
+            rows,
+            pool,
+            out,
+            work,
+            how,
+            labelled,
+            node,
+            i,
+            core,
+            left,
+        );
     }
-    array(table, rows, pool, out, work, how, node, i, core)
+    array(table, rows, pool, out, work, how, node, i, core, left)
 }
 
 fn record(
@@ -134,23 +169,34 @@ fn record(
     node: usize,
     i: usize,
     core: usize,
-) -> Step
-    requires { ⌜ (Holds (now pool) (now rows) (now work) i core) × Sized (now table) × FitsWire (now table) (now work) 32 node × (nodeAt (now table) node .kind ≡ RECORD) ⌝ }
+    left: usize,
+) -> Progress
+    requires { ⌜ (Holds (now pool) (now rows) (now work) i core) × Sized (now table) × FitsWire (now table) (now work) left node × (nodeAt (now table) node .kind ≡ RECORD) ⌝ }
     ensures { λ r. ⌜ WritesWire how (now (table .entry)) (now (pool .entry)) (now (rows .entry)) (now (out .entry)) (now (work .entry)) core (now (out .exit)) (now (work .exit)) r i node labelled ⌝ }
 {
-    let count = nodes::argument_at(table, node);
-    let r = write_row::record(rows, pool, out, how.put, labelled, count, i, core);
-    let Step::Done(next, end) = r else {
-        return again(r);
+    let held = own::own_row(
+        table,
+        rows,
+        pool,
+        out,
+        how.put,
+        false,
+        labelled,
+        node,
+        i,
+        core,
+    );
+    let Own::Values(count, next, end) = held else {
+        return own::step(held);
     };
     if count == 0 {
-        return Step::Done(next, end);
+        return Progress::Done(next, end);
     }
-    run(
+    values(
         next,
         end,
         node + 1,
-        count as u64,
+        count,
         false,
         table,
         rows,
@@ -158,6 +204,7 @@ fn record(
         out,
         work,
         how,
+        left - 1,
     )
 }
 
@@ -171,19 +218,16 @@ fn array(
     node: usize,
     i: usize,
     core: usize,
-) -> Step
-    requires { ⌜ (Holds (now pool) (now rows) (now work) i core) × Sized (now table) × FitsWire (now table) (now work) 32 node × (nodeAt (now table) node .kind ≡ ARRAY) ⌝ }
+    left: usize,
+) -> Progress
+    requires { ⌜ (Holds (now pool) (now rows) (now work) i core) × Sized (now table) × FitsWire (now table) (now work) left node × (nodeAt (now table) node .kind ≡ ARRAY) ⌝ }
     ensures { λ r. ⌜ WritesWire how (now (table .entry)) (now (pool .entry)) (now (rows .entry)) (now (out .entry)) (now (work .entry)) core (now (out .exit)) (now (work .exit)) r i node false ⌝ }
 {
-    let Word::Is(count) = row::word_at(rows, pool, kind::ARRAY, i) else {
-        return Step::Refused(42, i as u64);
+    let held = own::own_row(table, rows, pool, out, how.put, true, false, node, i, core);
+    let Own::Values(count, next, end) = held else {
+        return own::step(held);
     };
-    // a count that is no label has no rows enough for it, and any label will do
-    let r = write_row::mark(out, how.put, i, core, label::integer_of(count));
-    let Step::Done(next, end) = r else {
-        return again(r);
-    };
-    run(
+    values(
         next,
         end,
         node + 1,
@@ -195,10 +239,13 @@ fn array(
         out,
         work,
         how,
+        left - 1,
     )
 }
 
-// Values one after another: the fields of a record, or one value alone. The first may be absent if `omittable` says so.
+// `count` values, one after another: the fields of a record, the first of them at `node`; or the one value at `node`. The
+// table says of each field behind the first whether it may be absent, and `omittable` says it of the first: a value that is
+// no field is not absent, whatever its node says.
 fn fields(
     table: &[u8],
     rows: &[u64],
@@ -211,9 +258,10 @@ fn fields(
     count: usize,
     i: usize,
     core: usize,
-) -> Step
-    requires { ⌜ (Holds (now pool) (now rows) (now work) i core) × Sized (now table) × FitGroup (now table) (now work) node count ⌝ }
-    ensures { λ r. ⌜ WritesGroup how (now (table .entry)) (now (pool .entry)) (now (rows .entry)) (now (out .entry)) (now (work .entry)) core (now (out .exit)) (now (work .exit)) r i node omittable count ⌝ }
+    left: usize,
+) -> Progress
+    requires { ⌜ (Holds (now pool) (now rows) (now work) i core) × Sized (now table) × FitSequence (now table) (now work) left node count ⌝ }
+    ensures { λ r. ⌜ WritesSequence how (now (table .entry)) (now (pool .entry)) (now (rows .entry)) (now (out .entry)) (now (work .entry)) core (now (out .exit)) (now (work .exit)) r i node omittable count ⌝ }
 {
     let mut k = count;
     let mut at = node;
@@ -221,13 +269,13 @@ fn fields(
     let mut end = core;
     let mut absent = omittable;
     loop {
-        let r = value(table, rows, pool, out, work, how, absent, at, n, end);
-        let Step::Done(row, far) = r else {
+        let r = value(table, rows, pool, out, work, how, absent, at, n, end, left);
+        let Progress::Done(row, far) = r else {
             return again(r);
         };
         k -= 1;
         if k == 0 {
-            return Step::Done(row, far);
+            return Progress::Done(row, far);
         }
         at = nodes::end_at(work, at);
         absent = nodes::is_omittable(table, at);
@@ -236,8 +284,9 @@ fn fields(
     }
 }
 
-// The value at a node, as `value`; but a record's fields are written where it stands, with no call for each record.
-fn entire(
+// The value at a node, as `value` writes it; but `begin` writes a record's own row, and its fields are written from here, so
+// that there is no call of `record` and of `values` for each record of an array.
+fn value_in_place(
     table: &[u8],
     rows: &[u64],
     pool: &[u8],
@@ -248,8 +297,9 @@ fn entire(
     node: usize,
     i: usize,
     core: usize,
-) -> Step
-    requires { ⌜ (Holds (now pool) (now rows) (now work) i core) × Sized (now table) × FitsNode (now table) (now work) 32 node ⌝ }
+    left: usize,
+) -> Progress
+    requires { ⌜ (Holds (now pool) (now rows) (now work) i core) × Sized (now table) × FitsNode (now table) (now work) left node ⌝ }
     ensures { λ r. ⌜ WritesNode how (now (table .entry)) (now (pool .entry)) (now (rows .entry)) (now (out .entry)) (now (work .entry)) core (now (out .exit)) (now (work .exit)) r i node omittable ⌝ }
 {
     let s = start::begin(table, rows, pool, out, how.put, omittable, node, i, core);
@@ -268,15 +318,17 @@ fn entire(
         count,
         n,
         end,
+        left - (first - node),
     )
 }
 
-// So many values: entries, which all have the type at `node`, or fields, the first of them at `node`. One loop for both,
-// so that a call is made for what a record or an array holds, and none for each value; nor for what one holds that has
-// one value alone, which `descend` comes to by itself, nor for the fields of a record of the run, which `entire` writes.
-// What differs from call to call comes first: it goes in registers.
-// A count of entries may be any word: the first row that is missing ends them.
-fn run(
+// `count` values: the entries of an array, which all have the type at `node`, or the fields of a record, the first of them at
+// `node`. One loop for both, so that there is one call for what a record or an array holds. Of each value, `descend` first
+// goes through the records of one field and the arrays of one entry that it begins with, and `value_in_place` writes what
+// is inside.
+// The arguments that differ from call to call come first: they go in registers.
+// An array's count may be any word: if there are fewer rows, the first one that is missing is refused.
+fn values(
     i: usize,
     core: usize,
     node: usize,
@@ -288,9 +340,10 @@ fn run(
     out: &mut [u8],
     work: &mut [u32],
     how: Pass,
-) -> Step
-    requires { ⌜ (Holds (now pool) (now rows) (now work) i core) × Sized (now table) × FitRun (now table) (now work) 32 node repeated count ⌝ }
-    ensures { λ r. ⌜ WritesRun how (now (table .entry)) (now (pool .entry)) (now (rows .entry)) (now (out .entry)) (now (work .entry)) core (now (out .exit)) (now (work .exit)) r i node repeated count ⌝ }
+    left: usize,
+) -> Progress
+    requires { ⌜ (Holds (now pool) (now rows) (now work) i core) × Sized (now table) × FitRun (now table) (now work) left node repeated count ⌝ }
+    ensures { λ r. ⌜ WritesValues how (now (table .entry)) (now (pool .entry)) (now (rows .entry)) (now (out .entry)) (now (work .entry)) core (now (out .exit)) (now (work .exit)) r i node repeated count ⌝ }
 {
     let mut k = count;
     let mut at = node;
@@ -303,8 +356,21 @@ fn run(
         let Descent::To(inner, absent, first, far) = d else {
             return descent::step(d);
         };
-        let r = entire(table, rows, pool, out, work, how, absent, inner, first, far);
-        let Step::Done(next, further) = r else {
+        let path = left - (inner - at);
+        let r = value_in_place(
+            table,
+            rows,
+            pool,
+            out,
+            work,
+            how,
+            absent,
+            inner,
+            first,
+            far,
+            path,
+        );
+        let Progress::Done(next, further) = r else {
             return again(r);
         };
         at = after;
@@ -312,7 +378,7 @@ fn run(
         end = further;
         k -= 1;
     }
-    Step::Done(n, end)
+    Progress::Done(n, end)
 }
 
 // The whole tree: the value at the table's root, from the first row on.
@@ -324,9 +390,9 @@ pub fn root(
     work: &mut [u32],
     how: Pass,
     core: usize,
-) -> Step
+) -> Progress
     requires { ⌜ (Holds (now pool) (now rows) (now work) 0 core) × Sized (now table) × FitsNode (now table) (now work) 32 0 ⌝ }
     ensures { λ r. ⌜ WritesNode how (now (table .entry)) (now (pool .entry)) (now (rows .entry)) (now (out .entry)) (now (work .entry)) core (now (out .exit)) (now (work .exit)) r 0 0 false ⌝ }
 {
-    run(0, core, 0, 1, true, table, rows, pool, out, work, how)
+    values(0, core, 0, 1, true, table, rows, pool, out, work, how, 32)
 }

@@ -10,14 +10,14 @@ ghost use Rattle.write_literals.specs.Words.{Good};
 ghost use Rattle.write_passes.specs.Layout.{messageLength};
 ghost use Rattle.write_bytes.specs.State.{slotsOf};
 ghost use Rattle.wire_types.specs.Typed.{Kept};
-ghost use Rattle.writer.specs.Writer.{Within, Passes, isOver, roomFor, CountsIn, Fits, PutsIn, Makes, messageIn};
-ghost use Rattle.writer.specs.Demands.{Answers, Accepts, RoundTrip, Shortest, NoRoom, Rewrites};
+ghost use Rattle.writer.specs.Writer.{Within, Passes, sizeOf, isOver, roomFor, CountsIn, Fits, PutsIn, Makes, messageIn};
+ghost use Rattle.writer.specs.Demands.{Demands};
 use format::MOST_BYTES;
 use format::MOST_ROWS;
 use format::ROW_WIDTH;
 use table::Answer;
 use write_row::Pass;
-use write_row::Step;
+use write_row::Progress;
 
 // So many bytes; or a refusal's number and second number.
 enum Size {
@@ -50,6 +50,16 @@ fn pass_in(modes: u64, put: bool) -> Pass
     }
 }
 
+// The core's size, or the walk's refusal handed on.
+fn size_of(r: Progress) -> Size
+    ensures { λ size. ⌜ size ≡ sizeOf r ⌝ }
+{
+    match r {
+        Progress::Refused(number, second) => Size::Refused(number, second),
+        Progress::Done(_, core) => Size::Bytes(core),
+    }
+}
+
 // The first pass: judges the rows, and counts how many bytes the core and each block take.
 fn count(
     table: &[u8],
@@ -64,15 +74,13 @@ fn count(
 {
     store::clear(work);
     let r = write_walk::root(table, rows, pool, out, work, pass_in(modes, false), 0);
-    match r {
-        Step::Refused(number, second) => Size::Refused(number, second),
-        Step::Done(next, core) => {
-            if next < rows.len() / ROW_WIDTH {
-                return Size::Refused(42, next as u64);
-            }
-            Size::Bytes(core)
-        }
+    let Progress::Done(next, core) = r else {
+        return size_of(r);
+    };
+    if next < rows.len() / ROW_WIDTH {
+        return Size::Refused(42, next as u64);
     }
+    Size::Bytes(core)
 }
 
 // How long the message is, if there are not too many different values and there is room.
@@ -80,8 +88,7 @@ fn measure(work: &[u32], modes: u64, core: usize, lent: usize) -> Size
     requires { ⌜ (Good (now work)) × (core < 2 ^ 32) ⌝ }
     ensures { λ r. ⌜ r ≡ roomFor (isOver (now (work .entry))) (messageLength (inlineEverything modes) core (slotsOf (now (work .entry)))) lent ⌝ }
 {
-    let over = store::rest(work);
-    if over.at != 0 {
+    if write_literals::is_over(work) {
         return Size::Refused(32, 0);
     }
     let size = write_bytes::message_length(work, modes % 2 == 1, core);
@@ -185,12 +192,7 @@ pub fn write(
     ensures { λ r. ⌜ r .second ≡ second (λ m. length m) (writeOf (length (now (work .entry))) (now (table .entry)) modes (now (rows .entry)) (now (pool .entry)) (length (now (out .entry)))) ⌝ }
     ensures { λ _. ⌜ now (out .exit) ≡ output (λ m. m) (length (now (out .entry))) (writeOf (length (now (work .entry))) (now (table .entry)) modes (now (rows .entry)) (now (pool .entry)) (length (now (out .entry)))) ⌝ }
     ensures { λ _. ⌜ now (work .exit) ≡ zeros (length (now (work .entry))) ⌝ }
-    ensures answers { λ r. ⌜ Answers (length (now (work .entry))) (now (table .entry)) modes (now (rows .entry)) (now (pool .entry)) (length (now (out .entry))) (r .number) (r .second) (now (out .exit)) ⌝ }
-    ensures accepts { λ r. ⌜ Accepts (length (now (work .entry))) (now (table .entry)) modes (now (rows .entry)) (now (pool .entry)) (length (now (out .entry))) (r .number) (r .second) (now (out .exit)) ⌝ }
-    ensures round_trip { λ r. ⌜ RoundTrip (length (now (work .entry))) (now (table .entry)) modes (now (rows .entry)) (now (pool .entry)) (length (now (out .entry))) (r .number) (r .second) (now (out .exit)) ⌝ }
-    ensures shortest { λ r. ⌜ Shortest (length (now (work .entry))) (now (table .entry)) modes (now (rows .entry)) (now (pool .entry)) (length (now (out .entry))) (r .number) (r .second) (now (out .exit)) ⌝ }
-    ensures no_room { λ r. ⌜ NoRoom (length (now (work .entry))) (now (table .entry)) modes (now (rows .entry)) (now (pool .entry)) (length (now (out .entry))) (r .number) (r .second) (now (out .exit)) ⌝ }
-    ensures rewrites { λ r. ⌜ Rewrites (length (now (work .entry))) (now (table .entry)) modes (now (rows .entry)) (now (pool .entry)) (length (now (out .entry))) (r .number) (r .second) (now (out .exit)) ⌝ }
+    ensures demands { λ r. ⌜ Demands (length (now (work .entry))) (now (table .entry)) modes (now (rows .entry)) (now (pool .entry)) (length (now (out .entry))) (r .number) (r .second) (now (out .exit)) ⌝ }
 {
     let checked = table::check_keeping(table, work);
     if checked.number != 0 {

@@ -22,13 +22,13 @@ mul-wide : tie.Need-mul-wide
 mul-wide c =
     let s = c .before .before .before .before .before .before .before .before in
     let tl = (rw (c .before .before .bucket .ensures .0) at (c .tail .ensures)) in
-    omega (arith, where-at (now (s .args .work)) (s .pre .0) (s .args .key) (record { start = s .args .start; size = s .args .size }) (s .pre .1) (s .pre .2) (c .before .before .before .before .before .total .ensures .0) (c .before .before .before .count .ensures .0) tl, few-enough (now (s .args .work)) (s .pre .0) (s .args .key) (record { start = s .args .start; size = s .args .size }) (s .pre .1) (s .pre .2) (c .before .before .before .before .before .total .ensures .0) (c .before .before .before .count .ensures .0) tl)
+    omega (arith, where-at (now (s .args .work)) (s .pre .0) (s .args .key) (record { first = s .args .first; second = s .args .second }) (s .pre .1) (s .pre .2) (c .before .before .before .before .before .total .ensures .0) (c .before .before .before .count .ensures .0) tl, few-enough (now (s .args .work)) (s .pre .0) (s .args .key) (record { first = s .args .first; second = s .args .second }) (s .pre .1) (s .pre .2) (c .before .before .before .before .before .total .ensures .0) (c .before .before .before .count .ensures .0) tl)
 
 slice-read-wide : tie.Need-slice-read-wide
 slice-read-wide c =
     let s = c .before .before .before .before .before .before .before .before .before in
     let tl = (rw (c .before .before .before .bucket .ensures .0) at (c .before .tail .ensures)) in
-    omega (arith, where-at (now (s .args .work)) (s .pre .0) (s .args .key) (record { start = s .args .start; size = s .args .size }) (s .pre .1) (s .pre .2) (c .before .before .before .before .before .before .total .ensures .0) (c .before .before .before .before .count .ensures .0) tl, few-enough (now (s .args .work)) (s .pre .0) (s .args .key) (record { start = s .args .start; size = s .args .size }) (s .pre .1) (s .pre .2) (c .before .before .before .before .before .before .total .ensures .0) (c .before .before .before .before .count .ensures .0) tl, s .pre .0 .slots .whole)
+    omega (arith, where-at (now (s .args .work)) (s .pre .0) (s .args .key) (record { first = s .args .first; second = s .args .second }) (s .pre .1) (s .pre .2) (c .before .before .before .before .before .before .total .ensures .0) (c .before .before .before .before .count .ensures .0) tl, few-enough (now (s .args .work)) (s .pre .0) (s .args .key) (record { first = s .args .first; second = s .args .second }) (s .pre .1) (s .pre .2) (c .before .before .before .before .before .before .total .ensures .0) (c .before .before .before .before .count .ensures .0) tl, s .pre .0 .slots .whole)
 
 wide-requires : tie.Need-wide-requires
 wide-requires c κs = search needs
@@ -46,7 +46,7 @@ write-requires : tie.Need-write-requires
 write-requires c κs =
     let s = c .before .before .before .before .before .before .before .before .before .before .before .before .before in
     let tl = (rw (c .before .before .before .before .before .before .before .bucket .ensures .0) at (c .before .before .before .before .before .tail .ensures)) in
-    let k = keep-in (now (s .args .work)) (s .pre .0) (s .args .key) (record { start = s .args .start; size = s .args .size }) (s .pre .1) (s .pre .2) (c .before .before .before .before .before .before .before .before .before .before .total .ensures .0) (c .before .before .before .before .before .before .before .before .count .ensures .0) tl in
+    let k = keep-in (now (s .args .work)) (s .pre .0) (s .args .key) (record { first = s .args .first; second = s .args .second }) (s .pre .1) (s .pre .2) (c .before .before .before .before .before .before .before .before .before .before .total .ensures .0) (c .before .before .before .before .before .before .before .before .count .ensures .0) tl in
     (s .pre .0 .slots .whole, s .pre .1, k .0, k .1, k .2, k .3, c .before .relinked .ensures .1, s .pre .3, s .pre .4)
 
 same-length : tie.Need-same-length
@@ -56,7 +56,7 @@ returns : tie.Need-returns
 returns c =
     let s = c .before .before .before .before .before .before .before .before .before .before .before .before .before .before .before .before in
     let tl = (rw (c .before .before .before .before .before .before .before .before .before .before .bucket .ensures .0) at (c .before .before .before .before .before .before .before .before .tail .ensures)) in
-    keep-is (now (s .args .work)) (s .pre .0) (s .args .key) (record { start = s .args .start; size = s .args .size }) (s .pre .1) (s .pre .2) (c .before .before .before .before .before .before .before .before .before .before .before .before .before .total .ensures .0) (c .before .before .before .before .before .before .before .before .before .before .before .count .ensures .0) tl (c .before .before .before .before .before .before .wide .ensures .0) (rw (c .before .before .before .before .before .before .before .before .before .before .bucket .ensures .0) at (c .before .before .before .before .before .side .ensures .0)) (c .before .before .before .before .before .side .ensures .1) (c .before .before .before .before .relinked .ensures .0) (c .before .before .write .ensures)
+    keep-is (now (s .args .work)) (s .pre .0) (s .args .key) (record { first = s .args .first; second = s .args .second }) (s .pre .1) (s .pre .2) (c .before .before .before .before .before .before .before .before .before .before .before .before .before .total .ensures .0) (c .before .before .before .before .before .before .before .before .before .before .before .count .ensures .0) tl (c .before .before .before .before .before .before .wide .ensures .0) (rw (c .before .before .before .before .before .before .before .before .before .before .bucket .ensures .0) at (c .before .before .before .before .before .side .ensures .0)) (c .before .before .before .before .before .side .ensures .1) (c .before .before .before .before .relinked .ensures .0) (c .before .before .write .ensures)
 
 pub add-spec : {M : Type 1} → statement M
 add-spec =

@@ -17,7 +17,7 @@ add-result-2 : tie.Need-add-result-2
 add-result-2 c = search needs
 
 returns : tie.Need-returns
-returns c = let a = c .args in (bucket-is (a .key) (a .size), search needs)
+returns c = let a = c .args in (bucket-is (a .key) (a .second), search needs)
 
 pub bucket-spec : {M : Type 1} → statement M
 bucket-spec = tie.close (tie.spec mul-result add-result mul-result-2 add-result-2 returns)

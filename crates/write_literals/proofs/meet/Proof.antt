@@ -36,23 +36,23 @@ module _ (c : tie.After-sought Inv-loop μ-loop) where
   abbrev turn : tie.In-loop Inv-loop μ-loop
   turn = c .before .before .before .before .before .before .before
 
-  not-sought : c .sought .result ≡ false → Sought w (start .args .key) (start .args .j) (start .args .high) (start .args .size) (turn .before .loop .at - 1) → ⊥
+  not-sought : c .sought .result ≡ false → Sought w (start .args .key) (start .args .j) (start .args .high) (start .args .wanted) (turn .before .loop .at - 1) → ⊥
   not-sought e =
       let a = start .args in
-      sought-not w (start .pre .0) (a .key) (a .j) (a .high) (a .size) (turn .before .loop .inv .1) (turn .loop-test .taken) (c .before .before .before .before .before .wide .ensures .0) (c .before .before .before .wide2 .ensures .0) (c .before .wide3 .ensures .0) (c .sought .ensures .1 e)
+      sought-not w (start .pre .0) (a .key) (a .j) (a .high) (a .wanted) (turn .before .loop .inv .1) (turn .loop-test .taken) (c .before .before .before .before .before .wide .ensures .0) (c .before .before .before .wide2 .ensures .0) (c .before .wide3 .ensures .0) (c .sought .ensures .1 e)
 
-  found : c .sought .result ≡ true → Meets (getD (storeOf w .literals) (start .args .key) []) (start .args .j) (start .args .high) (start .args .size) (c .before .wide3 .result / 8192 % 4096) (c .before .before .before .before .before .wide .result)
+  found : c .sought .result ≡ true → Meets (getD (storeOf w .literals) (start .args .key) []) (start .args .j) (start .args .high) (start .args .wanted) (c .before .wide3 .result / 8192 % 4096) (c .before .before .before .before .before .wide .result)
   found e =
       let a = start .args in
       let y = c .sought .ensures .0 e in
-      meets-found w (start .pre .0) (a .key) (a .j) (a .high) (a .size) (turn .before .loop .inv .1) (turn .loop-test .taken) (c .before .before .before .before .before .wide .ensures .0) (c .before .before .before .wide2 .ensures .0) (c .before .wide3 .ensures .0) (bits (c .before .before .before .before .before .before .before .before .before .before .before .before)) (start .pre .1) (y .0) (y .1) (y .2) (y .3)
+      meets-found w (start .pre .0) (a .key) (a .j) (a .high) (a .wanted) (turn .before .loop .inv .1) (turn .loop-test .taken) (c .before .before .before .before .before .wide .ensures .0) (c .before .before .before .wide2 .ensures .0) (c .before .wide3 .ensures .0) (bits (c .before .before .before .before .before .before .before .before .before .before .before .before)) (start .pre .1) (y .0) (y .1) (y .2) (y .3)
 
   -- no literal is sought
-  nothing : ((g : ℕ) → g < allOf w → Sought w (start .args .key) (start .args .j) (start .args .high) (start .args .size) g → ⊥)
-      → Meets (getD (storeOf w .literals) (start .args .key) []) (start .args .j) (start .args .high) (start .args .size) (c .before .before .before .before .before .before .before .before .before .before .before .count .result) 0
+  nothing : ((g : ℕ) → g < allOf w → Sought w (start .args .key) (start .args .j) (start .args .high) (start .args .wanted) g → ⊥)
+      → Meets (getD (storeOf w .literals) (start .args .key) []) (start .args .j) (start .args .high) (start .args .wanted) (c .before .before .before .before .before .before .before .before .before .before .before .count .result) 0
   nothing f =
       let a = start .args in
-      meets-none w (start .pre .0) (a .key) (a .j) (a .high) (a .size) (start .pre .1) (c .before .before .before .before .before .before .before .before .before .before .before .count .ensures .0 ∙ count-is w (start .pre .0 .literals) (a .key) (start .pre .1)) (start .pre .2) (bits (c .before .before .before .before .before .before .before .before .before .before .before .before)) f
+      meets-none w (start .pre .0) (a .key) (a .j) (a .high) (a .wanted) (start .pre .1) (c .before .before .before .before .before .before .before .before .before .before .before .count .ensures .0 ∙ count-is w (start .pre .0 .literals) (a .key) (start .pre .1)) (start .pre .2) (bits (c .before .before .before .before .before .before .before .before .before .before .before .before)) f
 
 module _ (c : tie.After-bucket2 Inv-loop μ-loop) where
   abbrev looked : tie.After-sought Inv-loop μ-loop
@@ -65,18 +65,18 @@ module _ (c : tie.After-bucket2 Inv-loop μ-loop) where
   its-bucket : c .bucket2 .result ≡ bucketOf (w looked) (at - 1)
   its-bucket = bucket-read (w looked) (turn looked .loop-test .taken) (looked .before .before .before .wide2 .ensures .0) (looked .before .wide3 .ensures .0) (c .bucket2 .ensures .0)
 
-  on : c .bucket2 .result ≡ looked .before .before .before .before .before .before .before .before .before .before .bucket .result → bucketOf (w looked) (at - 1) ≡ bucket (start looked .args .key) (start looked .args .size)
+  on : c .bucket2 .result ≡ looked .before .before .before .before .before .before .before .before .before .before .bucket .result → bucketOf (w looked) (at - 1) ≡ bucket (start looked .args .key) (start looked .args .wanted)
   on e = sym its-bucket ∙ e ∙ looked .before .before .before .before .before .before .before .before .before .before .bucket .ensures .0
 
-  more : c .bucket2 .result ≡ looked .before .before .before .before .before .before .before .before .before .before .bucket .result → Seeking (w looked) (start looked .args .key) (start looked .args .j) (start looked .args .high) (start looked .args .size) (looked .before .wide3 .result % 8192)
+  more : c .bucket2 .result ≡ looked .before .before .before .before .before .before .before .before .before .before .bucket .result → Seeking (w looked) (start looked .args .key) (start looked .args .j) (start looked .args .high) (start looked .args .wanted) (looked .before .wide3 .result % 8192)
   more e =
       let a = start looked .args in
-      seeking-more (w looked) (start looked .pre .0) (a .key) (a .j) (a .high) (a .size) (turn looked .before .loop .inv .1) (turn looked .loop-test .taken) (on e) (looked .before .wide3 .ensures .0) (not-sought looked (c .before .if1 .left))
+      seeking-more (w looked) (start looked .pre .0) (a .key) (a .j) (a .high) (a .wanted) (turn looked .before .loop .inv .1) (turn looked .loop-test .taken) (on e) (looked .before .wide3 .ensures .0) (not-sought looked (c .before .if1 .left))
 
   less : c .bucket2 .result ≡ looked .before .before .before .before .before .before .before .before .before .before .bucket .result → left (allOf (w looked)) (looked .before .wide3 .result % 8192) < left (allOf (w looked)) at
   less e =
       let a = start looked .args in
-      seeking-less (w looked) (start looked .pre .0) (a .key) (a .j) (a .high) (a .size) (turn looked .before .loop .inv .1) (turn looked .loop-test .taken) (on e) (looked .before .wide3 .ensures .0)
+      seeking-less (w looked) (start looked .pre .0) (a .key) (a .j) (a .high) (a .wanted) (turn looked .before .loop .inv .1) (turn looked .loop-test .taken) (on e) (looked .before .wide3 .ensures .0)
 
 count-requires : tie.Need-count-requires Inv-loop μ-loop
 count-requires c κs = search needs
@@ -90,7 +90,7 @@ head-requires c κs = search needs
 loop-holds : tie.Need-loop-holds Inv-loop μ-loop
 loop-holds c =
     let s = c .before .before .before .before in
-    let k = seeking-start (now (s .args .work)) (s .pre .0) (s .args .key) (s .args .j) (s .args .high) (s .args .size) (c .before .bucket .ensures .0) (c .head .ensures) in
+    let k = seeking-start (now (s .args .work)) (s .pre .0) (s .args .key) (s .args .j) (s .args .high) (s .args .wanted) (c .before .bucket .ensures .0) (c .head .ensures) in
     (omega (arith, k .most, s .pre .0 .literals .most), k)
 
 sub-cell : tie.Need-sub-cell Inv-loop μ-loop
@@ -160,7 +160,7 @@ returns-3 : tie.Need-returns-3 Inv-loop μ-loop
 returns-3 c =
     let s = c .before .before .before .before .before .before in
     let n = c .before .before .before .before .count .ensures .0 in (
-      meets-none (now (s .args .work)) (s .pre .0) (s .args .key) (s .args .j) (s .args .high) (s .args .size) (s .pre .1) (n ∙ count-is (now (s .args .work)) (s .pre .0 .literals) (s .args .key) (s .pre .1)) (s .pre .2) (bits (c .before .before .before .before .before)) (c .before .loop .inv .1 .none (c .loop-test .left)),
+      meets-none (now (s .args .work)) (s .pre .0) (s .args .key) (s .args .j) (s .args .high) (s .args .wanted) (s .pre .1) (n ∙ count-is (now (s .args .work)) (s .pre .0 .literals) (s .args .key) (s .pre .1)) (s .pre .2) (bits (c .before .before .before .before .before)) (c .before .loop .inv .1 .none (c .loop-test .left)),
       (omega (arith, n, count-most (now (s .args .work)) (s .pre .0 .literals) (s .args .key) (s .pre .1), s .pre .0 .literals .most), search needs),
     )
 

@@ -94,7 +94,7 @@ same-length c = simp length-set
 returns : tie.Need-returns
 returns c =
     let a = c .args in
-    written (now (a .work)) (a .key) (a .g) (a .n) (a .at) (a .link) (a .start) (a .size) (c .pre .0) (c .pre .1) (c .pre .2) (c .pre .4) (c .pre .5)
+    written (now (a .work)) (a .key) (a .g) (a .n) (a .at) (a .link) (a .first) (a .second) (c .pre .0) (c .pre .1) (c .pre .2) (c .pre .4) (c .pre .5)
 
 pub write-spec : {M : Type 1} → statement M
 write-spec =

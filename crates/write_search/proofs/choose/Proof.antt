@@ -17,6 +17,7 @@ use Rattle.format.specs.Read.{nth}
 use Rattle.format.specs.Write.{firstEqual}
 use Rattle.laws.specs.Facts.{by-lt}
 use Rattle.store.specs.Words.{countOf}
+use Rattle.write_literals.specs.Store.{Literal}
 use Rattle.write_literals.specs.Words.{storeOf, Meets}
 use Rattle.write_literals.specs.Laws.{count-is, count-most}
 use Rattle.write_search.specs.Front.{known-is, known-none, known as knownOf}
@@ -27,7 +28,7 @@ use Rattle.write_search.proofs.choose.Statement.{statement}
 use Rattle.write_search.proofs.choose.Tie as tie
 
 -- the key's literals
-abbrev literals : List ℕ → ℕ → List Place
+abbrev literals : List ℕ → ℕ → List Literal
 literals work key = getD (storeOf work .literals) key []
 
 abbrev Inv-loop : tie.InvT-loop
@@ -39,7 +40,7 @@ abbrev μ-loop : tie.MeasureT-loop
 abbrev Inv-search : tie.InvT-search
 Inv-search pool work key start size n h near₀ pairs₀ known₀ j₀ first₀ near pairs known j first =
     (j ≤ n) × (near < 4096) × (pairs < 98304) × (known ≡ knownOf pairs) × (known ≤ size)
-    × (j < n → (nth (literals work key) j ≡ some (record { start = first; size = secondWord size near pairs })) × (first / 131072 ≡ pairs / 8))
+    × (j < n → (nth (literals work key) j ≡ some (record { first = first; second = secondWord size near pairs })) × (first / 131072 ≡ pairs / 8))
     × Reached pool (record { start = start; size = size }) (literals work key) j near pairs × (first < 2 ^ 32)
 
 abbrev μ-search : tie.MeasureT-search
@@ -50,7 +51,7 @@ module _ (s : tie.Start Inv-loop μ-loop Inv-search μ-search) where
   abbrev pool : List ℕ
   pool = now (s .args .pool)
 
-  abbrev xs : List Place
+  abbrev xs : List Literal
   xs = literals (now (s .args .work)) (s .args .key)
 
   abbrev p : Place
@@ -64,7 +65,7 @@ module _ (s : tie.Start Inv-loop μ-loop Inv-search μ-search) where
 
   -- from literal j on, up to the one that may be equal
   onward : {near pairs j k word first n : ℕ} → pairs < 98304 → n ≡ length xs → word ≡ secondWord (p .size) near pairs → Meets xs j (pairs / 8) word k first → Reached pool p xs j near pairs
-      → (k ≤ n) × (k < n → (nth xs k ≡ some (record { start = first; size = secondWord (p .size) near pairs })) × (first / 131072 ≡ pairs / 8)) × Reached pool p xs k near pairs
+      → (k ≤ n) × (k < n → (nth xs k ≡ some (record { first = first; second = secondWord (p .size) near pairs })) × (first / 131072 ≡ pairs / 8)) × Reached pool p xs k near pairs
   onward o n e k r = let h = rw e at k in (rw n (h .most), λ l. h .here (rw (← n) l), reached-on (s .pre .3) (s .pre .1 .inside (s .args .key)) o h r)
 
 -- and of literal j
@@ -72,8 +73,8 @@ module _ (t : tie.At-search Inv-loop μ-loop Inv-search μ-search) (h : t .searc
   abbrev entry : tie.Start Inv-loop μ-loop Inv-search μ-search
   entry = t .before .before .before .before .before .before .before
 
-  abbrev x : Place
-  x = record { start = t .search .first; size = secondWord (entry .args .size) (t .search .near) (t .search .pairs) }
+  abbrev x : Literal
+  x = record { first = t .search .first; second = secondWord (entry .args .size) (t .search .near) (t .search .pairs) }
 
   now-turn : Turn (pool entry) (p entry) (xs entry) (t .search .j) (t .search .near) (t .search .pairs) x
   now-turn =

@@ -2,7 +2,7 @@
 use native.Mathlib.Omega.{arith}
 use denote.Ref.{now}
 use mathlib.Core.Path.{ap}
-use Rattle.write_walk.proofs.Values.{block-writes}
+use Rattle.write_walk.proofs.ByKind.{block-writes}
 use mathlib.Core.Bool.{_&&_}
 use borrow.Author.Needs.{needs}
 use Rattle.write_walk.proofs.block.Statement.{statement}

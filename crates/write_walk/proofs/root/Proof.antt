@@ -1,12 +1,12 @@
--- `write_walk::root` meets its contract: a run of one entry.
+-- `write_walk::root` meets its contract: one entry.
 use borrow.Author.Needs.{needs}
 use Rattle.wire_types.specs.Run.{run-entries}
-use Rattle.write_walk.proofs.Runs.{one-entry}
+use Rattle.write_walk.proofs.Several.{one-entry}
 use Rattle.write_walk.proofs.root.Statement.{statement}
 use Rattle.write_walk.proofs.root.Tie as tie
 
-run-requires : tie.Need-run-requires
-run-requires c κs =
+values-requires : tie.Need-values-requires
+values-requires c κs =
     let c7 = c .before .before .before .before .before .before .before in
     (c7 .pre .0, c7 .pre .1, run-entries (c7 .pre .2))
 
@@ -17,7 +17,7 @@ same-length-2 : tie.Need-same-length-2
 same-length-2 c = search needs
 
 returns : tie.Need-returns
-returns c = one-entry (c .before .before .before .before .run .ensures)
+returns c = one-entry (c .before .before .before .before .values .ensures)
 
 pub root-spec : {M : Type 1} → statement M
-root-spec = tie.close (tie.spec run-requires same-length same-length-2 returns)
+root-spec = tie.close (tie.spec values-requires same-length same-length-2 returns)

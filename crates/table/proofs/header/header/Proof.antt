@@ -7,7 +7,7 @@ use lib.ListN.{length}
 use Prim.Native.Nat.{ℕ}
 use Rattle.format.specs.Table.{rightCount}
 use Rattle.table.proofs.Tests.{marked-length, header-10, header-11, header-12, header-right}
-use Rattle.table.specs.declared.step.Step.the-variants.{Next}
+use Rattle.table.specs.declared.progress.Progress.the-variants.{Next}
 use borrow.Author.Needs.{needs}
 use Rattle.table.proofs.header.header.Statement.{statement}
 use Rattle.table.proofs.header.header.Tie as tie

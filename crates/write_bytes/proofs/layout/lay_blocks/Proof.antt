@@ -11,8 +11,7 @@ use lib.ListN.{length}
 use borrow.Author.Needs.{needs}
 use Rattle.format.specs.Label.{labelSize}
 use Rattle.format.specs.Read.{nth}
-use Rattle.store.specs.Keeping.{moved}
-use Rattle.write_literals.specs.Laws.{keeping}
+use Rattle.write_literals.specs.Laws.{moved-advanced}
 use Rattle.label.specs.Laws.{framed}
 use Rattle.write_passes.specs.Layout.{blockSpace}
 use Rattle.write_bytes.specs.State.{slotsOf}
@@ -91,7 +90,7 @@ loop-again c =
     let loop = c .before .before .before .before .before .before .before .before .before .before .before .before .loop in
     let advance = c .before .before .advance in
     let put-label = c .before .before .before .before .before .before .put-label in
-    (omega (arith, loop-test .taken), loop .inv .1, laying-more (loop .inv .2) (there (c .before .before .before .before .before .before .before)) _ (begins (c .before .before .before .before .before .before)) (moved keeping (loop .inv .2 .good) (advance .ensures)) (rw (signed (c .before .before .before .before .before .before .before)) at (put-label .ensures .0)))
+    (omega (arith, loop-test .taken), loop .inv .1, laying-more (loop .inv .2) (there (c .before .before .before .before .before .before .before)) _ (begins (c .before .before .before .before .before .before)) (moved-advanced _ _ (loop .inv .2 .good) (advance .ensures)) (rw (signed (c .before .before .before .before .before .before .before)) at (put-label .ensures .0)))
 
 same-length : tie.Need-same-length Inv-loop μ-loop
 same-length c = c .before .loop .inv .2 .size

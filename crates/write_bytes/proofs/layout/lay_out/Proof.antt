@@ -5,8 +5,7 @@ use Prim.Native.Nat.{_*_}
 use native.Mathlib.Omega.{arith}
 use lib.ListN.{length-set}
 use borrow.Author.Needs.{needs}
-use Rattle.store.specs.Keeping.{forgotten}
-use Rattle.write_literals.specs.Laws.{keeping}
+use Rattle.write_literals.specs.Laws.{forgotten}
 use Rattle.format.specs.Modes.{inlineEverything}
 use Rattle.write_bytes.specs.State.{slotsOf}
 use Rattle.write_bytes.proofs.Facts.{signed-is}
@@ -50,7 +49,7 @@ returns c =
     let lay-blocks = c .before .before .before .before .before .before .before .before .before .lay-blocks in
     let forget = c .before .before .before .forget in
     let if1 = c .if1 in
-    lays-inline (args .modes) (args .core) (lay-blocks .ensures) (forgotten keeping (lay-blocks .ensures .good) (forget .ensures)) (inline-is (args .modes) (if1 .taken))
+    lays-inline (args .modes) (args .core) (lay-blocks .ensures) (forgotten (lay-blocks .ensures .good) (forget .ensures)) (inline-is (args .modes) (if1 .taken))
 
 count-label-requires : tie.Need-count-label-requires
 count-label-requires c κs =
@@ -85,7 +84,7 @@ returns-2 c =
     let if1 = c .before .before .before .before .before .if1 in
     let put-label = c .before .before .put-label in
     let e = signed-is (record { sfits = k .ok }) (k .ensures) in
-    lays-framed (args .modes) (args .core) (lay-blocks .ensures) (forgotten keeping (lay-blocks .ensures .good) (forget .ensures)) (inline-not (args .modes) (if1 .left)) (rw e at (put-label .ensures .0)) (rw e at (put-label .ensures .1))
+    lays-framed (args .modes) (args .core) (lay-blocks .ensures) (forgotten (lay-blocks .ensures .good) (forget .ensures)) (inline-not (args .modes) (if1 .left)) (rw e at (put-label .ensures .0)) (rw e at (put-label .ensures .1))
 
 pub lay-out-spec : {M : Type 1} → statement M
 lay-out-spec =

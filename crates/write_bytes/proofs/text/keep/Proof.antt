@@ -2,8 +2,7 @@
 use native.Mathlib.Omega.{arith}
 use denote.Ref.{now}
 use borrow.Author.Needs.{needs}
-use Rattle.store.specs.Keeping.{moved}
-use Rattle.write_literals.specs.Laws.{total-is, keeping}
+use Rattle.write_literals.specs.Laws.{total-is}
 use Rattle.write_bytes.proofs.Texts.{keeps-none, keeps-over, keeps-more}
 use Rattle.write_bytes.proofs.text.keep.Statement.{statement}
 use Rattle.write_bytes.proofs.text.keep.Tie as tie
@@ -14,8 +13,8 @@ returns c = keeps-none _ _ _ (c .if1 .taken) (c .before .before .pre .0)
 total-requires : tie.Need-total-requires
 total-requires c κs = search needs
 
-set-rest-requires : tie.Need-set-rest-requires
-set-rest-requires c κs = search needs
+set-over-requires : tie.Need-set-over-requires
+set-over-requires c κs = search needs
 
 same-length : tie.Need-same-length
 same-length c = search needs
@@ -24,9 +23,9 @@ returns-2 : tie.Need-returns-2
 returns-2 c =
     let if1 = c .before .before .before .before .before .before .before .if1 in
     let total = c .before .before .before .before .before .total in
-    let set-rest = c .before .before .set-rest in
+    let set-over = c .before .before .set-over in
     let s = c .before .before .before .before .before .before .before .before .before in
-    keeps-over _ _ _ (if1 .left) (omega (arith, total .ensures .0, total-is (now (s .args .work)) (s .pre .0 .literals))) (moved keeping (s .pre .0) (set-rest .ensures))
+    keeps-over _ _ _ (if1 .left) (omega (arith, total .ensures .0, total-is (now (s .args .work)) (s .pre .0 .literals))) (set-over .ensures)
 
 add-requires : tie.Need-add-requires
 add-requires c κs =
@@ -51,7 +50,7 @@ keep-spec =
     (tie.spec
     returns
     total-requires
-    set-rest-requires
+    set-over-requires
     same-length
     returns-2
     add-requires

@@ -2,8 +2,7 @@
 use mathlib.Core.Path.{_∙_}
 use borrow.Author.Needs.{needs}
 use Rattle.store.specs.Laws.{is-some, is-none}
-use Rattle.store.specs.Keeping.{looked-up, moved}
-use Rattle.write_literals.specs.Laws.{keeping}
+use Rattle.write_literals.specs.Laws.{looked-up, moved-opened, moved-advanced}
 use Rattle.write_bytes.proofs.Values.{moved-core, moved-put, moved-new, moved-slot}
 use Rattle.write_bytes.proofs.value.move_to.Statement.{statement}
 use Rattle.write_bytes.proofs.value.move_to.Tie as tie
@@ -23,7 +22,7 @@ returns-2 c =
     let if2 = c .before .before .before .before .if2 in
     let if1 = c .before .before .before .before .before .if1 in
     let pre = c .before .before .before .before .before .before .before .pre in
-    moved-put _ _ _ _ (if2 .taken) (if1 .left) (pre .3) (moved keeping (pre .0) (advance .ensures))
+    moved-put _ _ _ _ (if2 .taken) (if1 .left) (pre .3) (moved-advanced _ _ (pre .0) (advance .ensures))
 
 find-requires : tie.Need-find-requires
 find-requires c κs = search needs
@@ -48,7 +47,7 @@ returns-3 c =
     let enum-told = c .before .before .before .before .enum-told in
     let touch = c .before .before .touch in
     let pre = c .before .before .before .before .before .before .before .before .before .before .before .pre in
-    moved-new _ _ _ _ (if1 .left) (is-none (find .ensures .0 ∙ looked-up keeping _ _) (enum-told .given .1)) (moved keeping (pre .0) (touch .ensures))
+    moved-new _ _ _ _ (if1 .left) (is-none (find .ensures .0 ∙ looked-up _ _) (enum-told .given .1)) (moved-opened _ _ (pre .0) (touch .ensures))
 
 enum-told-2 : tie.Need-enum-told-2
 enum-told-2 c = search needs
@@ -66,7 +65,7 @@ returns-4 c =
     let enum-told2 = c .before .before .before .before .enum-told2 in
     let advance2 = c .before .before .advance2 in
     let pre = c .before .before .before .before .before .before .before .before .before .before .before .pre in
-    moved-slot _ _ _ _ (if1 .left) (is-some (find .ensures .0 ∙ looked-up keeping _ _) (enum-told2 .given .1)) (moved keeping (pre .0) (advance2 .ensures))
+    moved-slot _ _ _ _ (if1 .left) (is-some (find .ensures .0 ∙ looked-up _ _) (enum-told2 .given .1)) (moved-advanced _ _ (pre .0) (advance2 .ensures))
 
 pub move-to-spec : {M : Type 1} → statement M
 move-to-spec =

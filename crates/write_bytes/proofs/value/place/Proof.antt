@@ -3,9 +3,8 @@ use mathlib.Core.Path.{_∙_}
 use denote.Ref.{now}
 use borrow.Author.Needs.{needs}
 use Rattle.store.specs.Laws.{is-some, is-none}
-use Rattle.store.specs.Keeping.{looked-up}
 use Rattle.write_literals.specs.Words.{storeOf}
-use Rattle.write_literals.specs.Laws.{keeping}
+use Rattle.write_literals.specs.Laws.{looked-up}
 use Rattle.write_bytes.proofs.Values.{place-core, place-slot, place-none, place-new}
 use Rattle.write_bytes.proofs.value.place.Statement.{statement}
 use Rattle.write_bytes.proofs.value.place.Tie as tie
@@ -24,7 +23,7 @@ returns-2 c =
     let if1 = c .before .before .before .before .if1 in
     let find = c .before .before .before .find in
     let slot = c .before .slot in
-    place-slot _ _ _ _ _ (if1 .left) (is-some (find .ensures .0 ∙ looked-up keeping _ _) (slot .given .1))
+    place-slot _ _ _ _ _ (if1 .left) (is-some (find .ensures .0 ∙ looked-up _ _) (slot .given .1))
 
 enum-told : tie.Need-enum-told
 enum-told c = search needs
@@ -35,7 +34,7 @@ returns-3 c =
     let find = c .before .before .before .find in
     let enum-told = c .before .enum-told in
     let if2 = c .if2 in
-    place-none _ _ _ _ _ (if1 .left) (is-none (find .ensures .0 ∙ looked-up keeping _ _) (enum-told .given .1)) (if2 .taken)
+    place-none _ _ _ _ _ (if1 .left) (is-none (find .ensures .0 ∙ looked-up _ _) (enum-told .given .1)) (if2 .taken)
 
 returns-4 : tie.Need-returns-4
 returns-4 c =
@@ -43,7 +42,7 @@ returns-4 c =
     let find = c .before .before .before .find in
     let enum-told = c .before .enum-told in
     let if2 = c .if2 in
-    place-new _ _ _ _ _ (if1 .left) (is-none (find .ensures .0 ∙ looked-up keeping _ _) (enum-told .given .1)) (if2 .left)
+    place-new _ _ _ _ _ (if1 .left) (is-none (find .ensures .0 ∙ looked-up _ _) (enum-told .given .1)) (if2 .left)
 
 pub place-spec : {M : Type 1} → statement M
 place-spec =

@@ -1,6 +1,6 @@
 -- A value by what stands in front of it and by its kind, at each return. Assumes nothing.
 use mathlib.Core.Path.{_≡_, refl, sym, ap, ap₂, _∙_, subst}
-use mathlib.Core.Bool.{Bool, true, false, not, _&&_}
+use mathlib.Core.Bool.{Bool, false, not, _&&_}
 use mathlib.Core.List.{List, [], _∷_}
 use mathlib.Core.Option.{none, some}
 use Prim.Native.Nat.{ℕ, _+_, _-_, _^_, _<_, _≤_}
@@ -24,10 +24,10 @@ use Rattle.table.specs.declared.nodes.Leaf as code
 use Rattle.laws.specs.Kinds.{by-boolean, by-array, by-record, by-block}
 use Rattle.table.specs.Held.{leafIn, leaf-held, dedup-held}
 use Rattle.wire_types.specs.Typed.{heldIn, IsNode, IsWire, AreFields, FitsNode, FitsWire, below}
-use Rattle.wire_types.specs.Nodes.{nullable-is, wire-of, fits-wire, fits-fields, fits-entry}
-use Rattle.wire_types.specs.Run.{FitRun, run-fields, run-entries}
-use Rattle.write_row.specs.declared.Step.{Step}
-use Rattle.write_row.specs.declared.Step.the-variants.{Done, Refused}
+use Rattle.wire_types.specs.Nodes.{nullable-is, wire-of}
+use Rattle.wire_types.specs.Path.{pathBelow, path-less, fits-own}
+use Rattle.write_row.specs.declared.Progress.{Progress}
+use Rattle.write_row.specs.declared.Progress.the-variants.{Done, Refused}
 use Rattle.write_row.specs.declared.Pass.{Pass}
 use Rattle.write_row.specs.declared.Opening.{Opening}
 use Rattle.write_row.specs.declared.Opening.the-variants.{Gone, Here}
@@ -39,13 +39,13 @@ use Rattle.write_row.specs.Used.{node-uses, entries-use}
 use Rattle.write_row.specs.Fits.{looked, value-there}
 use Rattle.write_row.specs.Opens.{fitValue, fitTruth, boolean-truth, fitRecord, record-first, array-not, array-is}
 use Rattle.write_row.specs.Row.{Marks, WritesRow, OpensGone, OpensHere, Opens, WritesText, leafOf}
-use Rattle.write_walk.specs.Pass.{Runs, WritesNode, WritesWire, WritesFields, WritesEntries}
+use Rattle.write_walk.specs.Pass.{WritesBy, WritesNode, WritesWire, WritesFields, WritesEntries}
 
 -- a row that has to do with no work, done
-pub row-holds : {put : Bool} {pool rows out out′ w : List ℕ} {i core i′ core′ : ℕ} {r : Step} {a : Answer (List Event × Rest)} → Holds pool rows w i core → WritesRow put pool rows out out′ i core r a → r ≡ Done i′ core′ → Holds pool rows w i′ core′
+pub row-holds : {put : Bool} {pool rows out out′ w : List ℕ} {i core i′ core′ : ℕ} {r : Progress} {a : Answer (List Event × Rest)} → Holds pool rows w i core → WritesRow put pool rows out out′ i core r a → r ≡ Done i′ core′ → Holds pool rows w i′ core′
 row-holds {w = w} h d q = done-holds (d .writes 0 (heldIn []) w h) q
 
-pub mark-holds : {put : Bool} {pool rows out out′ w : List ℕ} {i core i′ core′ : ℕ} {r : Step} {l : ℤ} → Holds pool rows w i core → i < rowCount rows → Marks put out out′ i core r l → r ≡ Done i′ core′ → Holds pool rows w i′ core′
+pub mark-holds : {put : Bool} {pool rows out out′ w : List ℕ} {i core i′ core′ : ℕ} {r : Progress} {l : ℤ} → Holds pool rows w i core → i < rowCount rows → Marks put out out′ i core r l → r ≡ Done i′ core′ → Holds pool rows w i′ core′
 mark-holds {pool = pool} {rows} h t d q = row-holds h (d .writes pool rows t) q
 
 leaf-back : (l : Leaf) → leafOf (leafIn l) ≡ l
@@ -60,11 +60,11 @@ leaf-back (fixed n) = refl
 pub begins : {pool rows w : List ℕ} {i core : ℕ} → Holds pool rows w i core → (i ≤ 8192) × (core < 2 ^ 32)
 begins h = (omega (arith, h .inside, h .few), omega (arith, h .within .first, h .inside, h .few))
 
-pub marks-as : {put : Bool} {out out′ : List ℕ} {i core : ℕ} {r : Step} {l l₁ : ℤ} → l ≡ l₁ → Marks put out out′ i core r l → Marks put out out′ i core r l₁
+pub marks-as : {put : Bool} {out out′ : List ℕ} {i core : ℕ} {r : Progress} {l l₁ : ℤ} → l ≡ l₁ → Marks put out out′ i core r l → Marks put out out′ i core r l₁
 marks-as e d = rw (← e) d
 
 module _ {put omittable nullable : Bool} {pool rows out out′ : List ℕ} {i core : ℕ} {x : Opening} (o : Opens put omittable nullable pool rows out out′ i core x) where
-  pub opened-gone : {r : Step} → x ≡ Gone r → OpensGone put omittable nullable pool rows out out′ i core r
+  pub opened-gone : {r : Progress} → x ≡ Gone r → OpensGone put omittable nullable pool rows out out′ i core r
   opened-gone q = subst (λ y. Opens put omittable nullable pool rows out out′ i core y) q o
 
   pub opened-here : {labelled : Bool} → x ≡ Here labelled → OpensHere put omittable nullable pool rows out out′ i core labelled
@@ -72,35 +72,25 @@ module _ {put omittable nullable : Bool} {pool rows out out′ : List ℕ} {i co
 
 -- ---- the types on the way down
 
-module _ (table w : List ℕ) (node : ℕ) where
-  pub own-fits : {own : ℕ} {z : Bool} → z ≡ eqb (nodeAt table node .kind) NULLABLE → own ≡ below z node → FitsNode table w 32 node → FitsWire table w 32 own
-  own-fits {z = z} e q f = subst (λ n. FitsWire table w 32 n) (sym q) (fits-wire table w 32 node z e f)
+-- the same path, said otherwise
+pub path-as : {table w : List ℕ} {left path node : ℕ} → left ≡ path → FitsNode table w left node → FitsNode table w path node
+path-as e f = rw (← e) f
 
-  pub own-onward : {own : ℕ} {z : Bool} → z ≡ eqb (nodeAt table node .kind) NULLABLE → own ≡ below z node → node ≤ own
-  own-onward {own} {z} e q = go z q
-    where
-      go : (y : Bool) → own ≡ below y node → node ≤ own
-      go true q = omega arith
-      go false q = omega arith
+module _ (table w : List ℕ) (left node : ℕ) where
+  pub path-within : {path : ℕ} {z : Bool} → z ≡ eqb (nodeAt table node .kind) NULLABLE → path ≡ pathBelow z left → path ≤ left
+  path-within {z = z} e q = omega (arith, path-less z left)
 
-  pub fields-fit : {count : ℕ} → nodeAt table node .kind ≡ RECORD → count ≡ nodeAt table node .argument → FitsWire table w 32 node → FitRun table w 32 (node + 1) false count
-  fields-fit k c f =
-      let g = fits-fields table w node 32 f k in
-      run-fields (record { types = g .types; are = g .are; counted = g .counted ∙ sym c; deep = omega (arith, g .deep); most = omega arith })
-
-  pub entry-fits : {count : ℕ} → nodeAt table node .kind ≡ ARRAY → FitsWire table w 32 node → FitRun table w 32 (node + 1) true count
-  entry-fits k f =
-      let g = fits-entry table w node 32 f k in
-      run-entries (record { type = g .type; is = g .is; deep = omega (arith, g .deep); most = omega arith })
+  pub own-fits : {own path : ℕ} {z : Bool} → z ≡ eqb (nodeAt table node .kind) NULLABLE → own ≡ below z node → path ≡ pathBelow z left → FitsNode table w left node → FitsWire table w path own
+  own-fits {z = z} e q p f = rw (q, p) (fits-own table w left node z e f)
 
 -- ---- what stands in front
 
 module _ (how : Pass) (table pool rows out w : List ℕ) (i core node : ℕ) (holds : Holds pool rows w i core) where
   module _ {omittable nullable : Bool} (z : nullable ≡ eqb (nodeAt table node .kind) NULLABLE) where
-    pub value-gone : {out′ : List ℕ} {r : Step} → OpensGone (how .put) omittable nullable pool rows out out′ i core r → WritesNode how table pool rows out w core out′ w r i node omittable
+    pub value-gone : {out′ : List ℕ} {r : Progress} → OpensGone (how .put) omittable nullable pool rows out out′ i core r → WritesNode how table pool rows out w core out′ w r i node omittable
     value-gone o = record { writes = λ modes s v h. o .writes (heldIn table) v (nullable-is table w node v h ∙ sym z) .writes modes (heldIn table) w holds }
 
-    pub value-here : {out₁ out′ w′ : List ℕ} {own : ℕ} {labelled : Bool} {r : Step} → OpensHere (how .put) omittable nullable pool rows out out₁ i core labelled → own ≡ below nullable node
+    pub value-here : {out₁ out′ w′ : List ℕ} {own : ℕ} {labelled : Bool} {r : Progress} → OpensHere (how .put) omittable nullable pool rows out out₁ i core labelled → own ≡ below nullable node
         → WritesWire how table pool rows out₁ w core out′ w′ r i own labelled → WritesNode how table pool rows out w core out′ w′ r i node omittable
     value-here {own = own} o e d = record {
       writes = λ modes s v h.
@@ -111,10 +101,10 @@ module _ (how : Pass) (table pool rows out w : List ℕ) (i core node : ℕ) (ho
 
   -- ---- by the kind of its own node
 
-  pub wire-boolean : {out′ : List ℕ} {r : Step} {labelled : Bool} → nodeAt table node .kind ≡ BOOLEAN → WritesRow (how .put) pool rows out out′ i core r (fitTruth (restOf pool rows i))
+  pub wire-boolean : {out′ : List ℕ} {r : Progress} {labelled : Bool} → nodeAt table node .kind ≡ BOOLEAN → WritesRow (how .put) pool rows out out′ i core r (fitTruth (restOf pool rows i))
       → WritesWire how table pool rows out w core out′ w r i node labelled
   wire-boolean {out′} {r} {labelled} k d = record {
-    writes = λ modes s v h. by-boolean _ _ _ _ (λ u. Runs how table pool rows out w core out′ w r i modes (fitWire (heldIn table) u labelled)) node v h k
+    writes = λ modes s v h. by-boolean _ _ _ _ (λ u. WritesBy how table pool rows out w core out′ w r i modes (fitWire (heldIn table) u labelled)) node v h k
         (along (boolean-truth (heldIn table) labelled (restOf pool rows i)) (d .writes modes (heldIn table) w holds));
   }
 
@@ -123,9 +113,9 @@ module _ (how : Pass) (table pool rows out w : List ℕ) (i core node : ℕ) (ho
   array-either u labelled = refl
 
   -- an array has a label of its own
-  pub wire-array : {out′ w′ : List ℕ} {r : Step} {labelled : Bool} → nodeAt table node .kind ≡ ARRAY → WritesWire how table pool rows out w core out′ w′ r i node false → WritesWire how table pool rows out w core out′ w′ r i node labelled
+  pub wire-array : {out′ w′ : List ℕ} {r : Progress} {labelled : Bool} → nodeAt table node .kind ≡ ARRAY → WritesWire how table pool rows out w core out′ w′ r i node false → WritesWire how table pool rows out w core out′ w′ r i node labelled
   wire-array {out′} {w′} {r} {labelled} k d = record {
-    writes = λ modes s v h. by-array _ _ _ _ (λ u. IsWire table w node u → Runs how table pool rows out w core out′ w′ r i modes (fitWire (heldIn table) u labelled)) node v h k
+    writes = λ modes s v h. by-array _ _ _ _ (λ u. IsWire table w node u → WritesBy how table pool rows out w core out′ w′ r i modes (fitWire (heldIn table) u labelled)) node v h k
         (λ u t g h₁. along (array-either u labelled) (d .writes modes s (array u) h₁)) h;
   }
 
@@ -134,20 +124,20 @@ module _ (how : Pass) (table pool rows out w : List ℕ) (i core node : ℕ) (ho
   by-fields k c P v h f = by-record _ _ _ _ P node v h k (λ ws t e g. f ws (sym (c ∙ e)) g)
 
   module _ (labelled : Bool) {count : ℕ} (k : nodeAt table node .kind ≡ RECORD) (c : count ≡ nodeAt table node .argument) where
-    module _ {out₁ : List ℕ} {r₁ : Step} (d : WritesRow (how .put) pool rows out out₁ i core r₁ (fitRecord count labelled (restOf pool rows i))) where
+    module _ {out₁ : List ℕ} {r₁ : Progress} (d : WritesRow (how .put) pool rows out out₁ i core r₁ (fitRecord count labelled (restOf pool rows i))) where
       first-does : (modes : ℕ) (ws : Fields) → fieldCount ws ≡ count → Writes (how .put) modes (heldIn table) pool rows out w core out₁ w r₁ (fitRecord (fieldCount ws) labelled (restOf pool rows i))
       first-does modes ws e = rw e (d .writes modes (heldIn table) w holds)
 
-      pub record-not : {r : Step} {n j : ℕ} → r₁ ≡ Refused n j → r ≡ r₁ → WritesWire how table pool rows out w core out₁ w r i node labelled
+      pub record-not : {r : Progress} {n j : ℕ} → r₁ ≡ Refused n j → r ≡ r₁ → WritesWire how table pool rows out w core out₁ w r i node labelled
       record-not q t = rw t (record {
-        writes = λ modes s v h. by-fields k c (λ u. Runs how table pool rows out w core out₁ w r₁ i modes (fitWire (heldIn table) u labelled)) v h
+        writes = λ modes s v h. by-fields k c (λ u. WritesBy how table pool rows out w core out₁ w r₁ i modes (fitWire (heldIn table) u labelled)) v h
             (λ ws e g. along (record-first (heldIn table) labelled (restOf pool rows i) ws) (seqs-not _ (fitAll (heldIn table) ws) (first-does modes ws e) q));
       })
 
-      pub record-then : {out′ w′ : List ℕ} {r : Step} {i₁ core₁ : ℕ} → r₁ ≡ Done i₁ core₁ → WritesFields how table pool rows out₁ w core₁ out′ w′ r i₁ (node + 1) count
+      pub record-then : {out′ w′ : List ℕ} {r : Progress} {i₁ core₁ : ℕ} → r₁ ≡ Done i₁ core₁ → WritesFields how table pool rows out₁ w core₁ out′ w′ r i₁ (node + 1) count
           → WritesWire how table pool rows out w core out′ w′ r i node labelled
       record-then {out′} {w′} {r} q f = record {
-        writes = λ modes s v h. by-fields k c (λ u. Runs how table pool rows out w core out′ w′ r i modes (fitWire (heldIn table) u labelled)) v h
+        writes = λ modes s v h. by-fields k c (λ u. WritesBy how table pool rows out w core out′ w′ r i modes (fitWire (heldIn table) u labelled)) v h
             (λ ws e g. along (record-first (heldIn table) labelled (restOf pool rows i) ws) (seqs _ (fitAll (heldIn table) ws) (first-does modes ws e) q (f .writes modes s ws g e)));
       }
 
@@ -182,35 +172,35 @@ module _ (how : Pass) (table pool rows out w : List ℕ) (i core node : ℕ) (ho
 
     pub array-none : {out′ : List ℕ} → valueIn arrayRow (looked pool rows i) ≡ none → WritesWire how table pool rows out w core out′ w (Refused 42 i) i node false
     array-none {out′} e = record {
-      writes = λ modes s v h. by-entries (λ u. Runs how table pool rows out w core out′ w (Refused 42 i) i modes (fitWire (heldIn table) u false)) v h
+      writes = λ modes s v h. by-entries (λ u. WritesBy how table pool rows out w core out′ w (Refused 42 i) i modes (fitWire (heldIn table) u false)) v h
           (λ u g. along (array-not pool rows i (heldIn table) false u e) (refuses 42 i));
     }
 
-    module _ {n : ℕ} {out₁ : List ℕ} {r₁ : Step} (e : valueIn arrayRow (looked pool rows i) ≡ some n) (b : n < 2 ^ 64) (d : Marks (how .put) out out₁ i core r₁ (integer n)) where
+    module _ {n : ℕ} {out₁ : List ℕ} {r₁ : Progress} (e : valueIn arrayRow (looked pool rows i) ≡ some n) (b : n < 2 ^ 64) (d : Marks (how .put) out out₁ i core r₁ (integer n)) where
       mark-does : (modes : ℕ) → Writes (how .put) modes (heldIn table) pool rows out w core out₁ w r₁ (ok (mark (integer n) ∷ [], restOf pool rows (i + 1)))
       mark-does modes = d .writes pool rows (value-there pool rows i arrayRow e) .writes modes (heldIn table) w holds
 
-      pub array-refused : {r : Step} {m j : ℕ} → r₁ ≡ Refused m j → r ≡ r₁ → WritesWire how table pool rows out w core out₁ w r i node false
+      pub array-refused : {r : Progress} {m j : ℕ} → r₁ ≡ Refused m j → r ≡ r₁ → WritesWire how table pool rows out w core out₁ w r i node false
       array-refused q t = rw t (record {
-        writes = λ modes s v h. by-entries (λ u. Runs how table pool rows out w core out₁ w r₁ i modes (fitWire (heldIn table) u false)) v h
+        writes = λ modes s v h. by-entries (λ u. WritesBy how table pool rows out w core out₁ w r₁ i modes (fitWire (heldIn table) u false)) v h
             (λ u g. along (array-value u e b ∙ any-label n u) (seqs-not _ (entriesOf n u) (mark-does modes) q));
       })
 
-      pub array-then : {out′ w′ : List ℕ} {r : Step} {i₁ core₁ : ℕ} → r₁ ≡ Done i₁ core₁ → WritesEntries how table pool rows out₁ w core₁ out′ w′ r i₁ (node + 1) n
+      pub array-then : {out′ w′ : List ℕ} {r : Progress} {i₁ core₁ : ℕ} → r₁ ≡ Done i₁ core₁ → WritesEntries how table pool rows out₁ w core₁ out′ w′ r i₁ (node + 1) n
           → WritesWire how table pool rows out w core out′ w′ r i node false
       array-then {out′} {w′} {r} q f = record {
-        writes = λ modes s v h. by-entries (λ u. Runs how table pool rows out w core out′ w′ r i modes (fitWire (heldIn table) u false)) v h
+        writes = λ modes s v h. by-entries (λ u. WritesBy how table pool rows out w core out′ w′ r i modes (fitWire (heldIn table) u false)) v h
             (λ u g. along (array-value u e b ∙ any-label n u) (seqs _ (entriesOf n u) (mark-does modes) q (f .writes modes s u g)));
       }
 
   -- ---- a BLOCK
 
-  module _ {out′ w′ : List ℕ} {r : Step} {labelled numbered : Bool} {key : ℕ} {l : code.Leaf} where
+  module _ {out′ w′ : List ℕ} {r : Progress} {labelled numbered : Bool} {key : ℕ} {l : code.Leaf} where
     pub block-writes : nodeAt table node .kind ≡ BLOCK → key ≡ nodeAt table node .argument → l ≡ leafIn (tables.leafOf (nodeAt table (node + 1))) → numbered ≡ (deduplicate (nodeAt table node) && how .numbers)
         → WritesText how numbered key pool rows out w core out′ w′ r (fitLeaf key (leafOf l) labelled (restOf pool rows i)) → WritesWire how table pool rows out w core out′ w′ r i node labelled
     unfolding fitWire isNumbered
     block-writes k a e n d = record {
-      writes = λ modes s v h. by-block _ _ _ _ (λ u. Runs how table pool rows out w core out′ w′ r i modes (fitWire (heldIn table) u labelled)) node v h k
+      writes = λ modes s v h. by-block _ _ _ _ (λ u. WritesBy how table pool rows out w core out′ w′ r i modes (fitWire (heldIn table) u labelled)) node v h k
           (λ g.
           let x : leafOf l ≡ heldIn table (nodeAt table node .argument) .leaf = ap leafOf (e ∙ leaf-held g) ∙ leaf-back _ in
           let y : isNumbered modes (heldIn table key) ≡ numbered = ap (λ j. heldIn table j .dedup && not (noDeduplication modes)) a ∙ ap₂ _&&_ (sym (dedup-held g)) (s .numbers) ∙ sym n in
