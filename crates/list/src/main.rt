@@ -113,7 +113,7 @@ fn lines(rows: &[u64], message: &[u8], n: u64) {
 }
 
 fn read(table: &[u8], message: &[u8]) {
-    let mut rows = [0u64; 24576];
+    let mut rows = [0u64; 32768];
     let mut work = [0u32; 16384];
     let r = reader::read(table, message, &mut rows, &mut work);
     if r.number == 0 {

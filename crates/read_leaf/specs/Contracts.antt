@@ -7,7 +7,7 @@ use Prim.Native.Nat.{ℕ}
 use lib.IntN.{ℤ, negsuc}
 use lib.ListN.{length}
 use Rattle.format.specs.Answer.{Answer, ok, refuse, _>>=_, need}
-use Rattle.format.specs.Row.{Place, Row, placed, rowWords}
+use Rattle.format.specs.Row.{Place, Says, placed, row, rowWords}
 use Rattle.format.specs.Table.{Leaf, Held, boolean}
 use Rattle.format.specs.Read.{Reading, inMessage, State, ownLabel, noLabel, isNumbered, oneRow, readText, wire, leaf}
 use Rattle.label.specs.declared.cursor.Cursor.{Cursor}
@@ -15,7 +15,7 @@ use Rattle.label.specs.declared.cursor.Label.{Label}
 use Rattle.read_pieces.specs.declared.Given.{Given}
 use Rattle.read_pieces.specs.declared.Given.the-variants.{Block, Nothing}
 use Rattle.read_pieces.specs.Pieces.{readingOf, Inside}
-use Rattle.read_leaf.specs.declared.Step.{Step}
+use Rattle.read_leaf.specs.declared.Progress.{Progress}
 use Rattle.read_leaf.specs.declared.front.Front.{Front}
 use Rattle.read_leaf.specs.declared.block.Part.{Part}
 use Rattle.read_leaf.specs.State.{mostRows, Ready, Walks, Does, Took, Takes}
@@ -31,20 +31,20 @@ pub record Bare (front : Front) (r : Bool) : Type 0 where
   pub is : (m : List ℕ) → noLabel (inMessage m) (frontOf front) ≡ need r 24
 
 -- the row of these words
-pub record PutsRow (n : ℕ) (ws : List ℕ) (c : Cursor) (before now : List ℕ) (r : Step) : Type 0 where
-  pub does : (m w : List ℕ) (x : Row Place) → rowWords x ≡ ws → Ready m w → Inside m c → Walks m w w c n before now r (oneRow (inMessage m) x)
+pub record PutsRow (n : ℕ) (ws : List ℕ) (c : Cursor) (before now : List ℕ) (r : Progress) : Type 0 where
+  pub does : (m w : List ℕ) (i : ℕ) (x : Says Place) → rowWords (row i x) ≡ ws → Ready m w → Inside m c → Walks m w w c n before now r (oneRow (inMessage m) i x)
 
 -- the row of a part that a has read
-pub record PutsPart (n kind : ℕ) (part : Part) (before now : List ℕ) (r : Step) : Type 0 where
+pub record PutsPart (n kind node : ℕ) (part : Part) (before now : List ℕ) (r : Progress) : Type 0 where
   pub does : (m w w′ : List ℕ) (a : Answer (Place × State (inMessage m))) → Took m (mostRows (length before)) w w′ n (partOf part) a
-      → Does m (mostRows (length before)) w w′ n before now r (a >>= (λ x. oneRow (inMessage m) (placed kind (x .0)) (x .1)))
+      → Does m (mostRows (length before)) w w′ n before now r (a >>= (λ x. oneRow (inMessage m) node (placed kind (x .0)) (x .1)))
 
-pub record Boolean (m : List ℕ) (front : Front) (c : Cursor) (n : ℕ) (before now : List ℕ) (r : Step) : Type 0 where
-  pub does : (modes : ℕ) (held : ℕ → Held) (w : List ℕ) → Ready m w → Walks m w w c n before now r (wire (inMessage m) modes held boolean (frontOf front))
+pub record Boolean (m : List ℕ) (node : ℕ) (front : Front) (c : Cursor) (n : ℕ) (before now : List ℕ) (r : Progress) : Type 0 where
+  pub does : (modes : ℕ) (held : ℕ → Held) (w : List ℕ) → Ready m w → Walks m w w c n before now r (wire (inMessage m) modes held boolean node (frontOf front))
 
 -- a leaf other than text; what the keys hold besides makes no difference
-pub record Unlabelled (m : List ℕ) (modes key : ℕ) (l : Leaf) (front : Front) (w w′ : List ℕ) (c : Cursor) (n : ℕ) (before now : List ℕ) (r : Step) : Type 0 where
-  pub does : (held : ℕ → Held) → Walks m w w′ c n before now r (leaf (inMessage m) modes held key l (frontOf front))
+pub record Unlabelled (m : List ℕ) (modes key : ℕ) (l : Leaf) (node : ℕ) (front : Front) (w w′ : List ℕ) (c : Cursor) (n : ℕ) (before now : List ℕ) (r : Progress) : Type 0 where
+  pub does : (held : ℕ → Held) → Walks m w w′ c n before now r (leaf (inMessage m) modes held key l node (frontOf front))
 
 -- the block of a key
 abbrev pub givenOf : Cursor → Given → Answer (Reading × Cursor)

@@ -10,30 +10,21 @@ use lib.ListN.{length, length-append}
 use lib.Seq.{sets}
 use borrow.Author.Tests.{ltb-true, ltb-false, lt-ltb, le-ltb}
 use Rattle.format.specs.Answer.{Answer, ok, refuse, _>>=_, needAt, _>>_}
-use Rattle.format.specs.Row.{Place, Row, bare, placed, rowWords, words, rowWidth}
+use Rattle.format.specs.Row.{Place, Says, Row, row, rowWords, words, rowWidth}
 use Rattle.format.specs.Read.{inMessage, State, takeRow, oneRow}
 use Rattle.laws.specs.Lists.{sets-append}
+use Rattle.laws.specs.Rows.{words-length}
 use Rattle.label.specs.declared.cursor.Cursor.{Cursor}
 use Rattle.read_pieces.specs.Pieces.{Inside}
 use Rattle.store.specs.Same.{Same, same-self, same-then}
-use Rattle.read_leaf.specs.declared.Step.{Step}
-use Rattle.read_leaf.specs.declared.Step.the-variants.{Done, Refused}
+use Rattle.read_leaf.specs.declared.Progress.{Progress}
+use Rattle.read_leaf.specs.declared.Progress.the-variants.{Done, Refused}
 use Rattle.read_leaf.specs.declared.push.Put.{Put}
 use Rattle.read_leaf.specs.declared.push.Put.the-variants.{Next, Full}
 use Rattle.read_leaf.specs.Push.{putOf, putIn}
 use Rattle.read_leaf.specs.State.{cursorOf, Ready, stateOf, Holds, Does}
 
 -- ---- rows that stand one after another
-
-row-length : (r : Row Place) → length (rowWords r) ≡ rowWidth
-unfolding rowWords
-row-length (bare kind a) = refl
-row-length (placed kind p) = refl
-
-pub words-length : (rs : List (Row Place)) → length (words rs) ≡ rowWidth * length rs
-unfolding words
-words-length [] = refl
-words-length (r ∷ rs) = simp length-append (omega (arith, row-length r, words-length rs))
 
 pub words-append : (rs ss : List (Row Place)) → words (rs ++ ss) ≡ words rs ++ words ss
 unfolding words
@@ -47,7 +38,7 @@ rows-append l n rs ss =
 
 -- ---- what a step does
 
-pub along : {m w w′ l l′ : List ℕ} {most n : ℕ} {r : Step} {a a′ : Answer (List (Row Place) × State (inMessage m))} → a ≡ a′ → Does m most w w′ n l l′ r a′ → Does m most w w′ n l l′ r a
+pub along : {m w w′ l l′ : List ℕ} {most n : ℕ} {r : Progress} {a a′ : Answer (List (Row Place) × State (inMessage m))} → a ≡ a′ → Does m most w w′ n l l′ r a′ → Does m most w w′ n l l′ r a
 along {m} {w} {w′} {l} {l′} {most} {n} {r} e d = subst (λ x. Does m most w w′ n l l′ r x) (sym e) d
 
 pub refuses-after : {m w w′ l l′ : List ℕ} {most n : ℕ} (e : ℕ) → Same w w′ → Does m most w w′ n l l′ (Refused e) (refuse e 0)
@@ -65,7 +56,7 @@ unfolding words
 ends {w = w} most n c g i = record { answer = simp add-zero; left = (refl, record { state = simp add-zero; ready = g; inside = i; same = same-self w }, λ h. omega arith) }
 
 -- the rows rs stand in the buffer, and a does the rest
-after-does : {m w w₁ w₂ l l₁ l₂ : List ℕ} {most n : ℕ} {r : Step} (rs : List (Row Place)) (a : Answer (List (Row Place) × State (inMessage m)))
+after-does : {m w w₁ w₂ l l₁ l₂ : List ℕ} {most n : ℕ} {r : Progress} (rs : List (Row Place)) (a : Answer (List (Row Place) × State (inMessage m)))
     → l₁ ≡ sets l (rowWidth * n) (words rs) → (n ≤ most → n + length rs ≤ most) → Same w w₁ → Does m most w₁ w₂ (n + length rs) l₁ l₂ r a → Does m most w w₂ n l l₂ r (a >>= (λ y. ok (rs ++ y .0, y .1)))
 unfolding _>>=_
 after-does {m} {w} {w₁} {w₂} {l} {l₁} {l₂} {most} {n} rs (ok y) e b k d =
@@ -77,7 +68,7 @@ after-does {m} {w} {w₁} {w₂} {l} {l₁} {l₂} {most} {n} rs (ok y) e b k d 
 after-does rs (refuse e i) q b k d = record { answer = d .answer; left = (d .left .0, same-then k (d .left .1)) }
 
 -- one step after another
-pub seqs : {m w w₁ w₂ l l₁ l₂ : List ℕ} {most n n₁ : ℕ} {c : Cursor} {r r₁ : Step} (a : Answer (List (Row Place) × State (inMessage m))) (g : State (inMessage m) → Answer (List (Row Place) × State (inMessage m)))
+pub seqs : {m w w₁ w₂ l l₁ l₂ : List ℕ} {most n n₁ : ℕ} {c : Cursor} {r r₁ : Progress} (a : Answer (List (Row Place) × State (inMessage m))) (g : State (inMessage m) → Answer (List (Row Place) × State (inMessage m)))
     → Does m most w w₁ n l l₁ r₁ a → r₁ ≡ Done c n₁ → Does m most w₁ w₂ n₁ l₁ l₂ r (g (stateOf m most w₁ c n₁))
     → Does m most w w₂ n l l₂ r (a >>= (λ x. g (x .1) >>= (λ y. ok (x .0 ++ y .0, y .1))))
 unfolding _>>=_
@@ -91,14 +82,14 @@ seqs {m} {w} {w₁} {w₂} {l} {l₁} {l₂} {most} {n} {n₁} {c} {r} (ok x) g 
     after-does (x .0) (g (x .1)) (d .left .0) (d .left .2) (d .left .1 .same) d₄
 
 -- whatever is done after a refusal
-pub seqs-not : {m w w₁ l l₁ : List ℕ} {most n e : ℕ} {r : Step} (a : Answer (List (Row Place) × State (inMessage m))) (f : List (Row Place) × State (inMessage m) → Answer (List (Row Place) × State (inMessage m)))
+pub seqs-not : {m w w₁ l l₁ : List ℕ} {most n e : ℕ} {r : Progress} (a : Answer (List (Row Place) × State (inMessage m))) (f : List (Row Place) × State (inMessage m) → Answer (List (Row Place) × State (inMessage m)))
     → Does m most w w₁ n l l₁ r a → r ≡ Refused e → Does m most w w₁ n l l₁ r (a >>= f)
 unfolding _>>=_
 seqs-not (refuse e i) f d q = record { answer = d .answer; left = d .left }
 seqs-not (ok x) f d q = let z : _≡_ {A = ℕ} 0 1 = cc (d .answer) in absurd (omega arith)
 
 -- what a step that is done has left
-module _ {m w w′ l l′ : List ℕ} {most n n′ : ℕ} {c : Cursor} {r : Step} where
+module _ {m w w′ l l′ : List ℕ} {most n n′ : ℕ} {c : Cursor} {r : Progress} where
   done-holds : (a : Answer (List (Row Place) × State (inMessage m))) → Does m most w w′ n l l′ r a → r ≡ Done c n′ → Ready m w′ × Inside m c × Same w w′
   done-holds (ok x) d q =
       let c₁ : Cursor = cursorOf (x .1 .core) in
@@ -149,7 +140,7 @@ unfolding words
 stored l l₁ ws most n x e q h = e ∙ simp (lt-ltb n most h, ← q, append-nil)
 
 -- q is the answer of putting the row x, and l₁ what is then in the buffer
-module _ {m w w₂ l l₁ l₂ ws : List ℕ} {most n n₁ : ℕ} {c : Cursor} {r : Step} {q : Put} (x : Row Place) (g : State (inMessage m) → Answer (List (Row Place) × State (inMessage m))) where
+module _ {m w w₂ l l₁ l₂ ws : List ℕ} {most n n₁ : ℕ} {c : Cursor} {r : Progress} {q : Put} (x : Row Place) (g : State (inMessage m) → Answer (List (Row Place) × State (inMessage m))) where
   pub pushes : q ≡ putOf most n → l₁ ≡ putIn most l n ws → q ≡ Next n₁ → rowWords x ≡ ws → Does m most w w₂ n₁ l₁ l₂ r (g (stateOf m most w c n₁))
       → Does m most w w₂ n l l₂ r (takeRow (inMessage m) (stateOf m most w c n) >>= (λ s. g s >>= (λ y. ok (x ∷ y .0, y .1))))
   unfolding _>>=_
@@ -164,11 +155,11 @@ unfolding _>>=_
 push-not {m} {w} {most = most} {n} c f h z = along (ap (λ a. a >>= f) (taken-not m w most n c (full h z))) (refuses 31)
 
 -- a row and no more
-module _ {m w l l₁ : List ℕ} {most n : ℕ} {q : Put} (c : Cursor) (x : Row Place) where
-  pub row-put : {ws : List ℕ} {n₁ : ℕ} → Ready m w → Inside m c → q ≡ putOf most n → l₁ ≡ putIn most l n ws → q ≡ Next n₁ → rowWords x ≡ ws → Does m most w w n l l₁ (Done c n₁) (oneRow (inMessage m) x (stateOf m most w c n))
+module _ {m w l l₁ : List ℕ} {most n : ℕ} {q : Put} (c : Cursor) (i : ℕ) (x : Says Place) where
+  pub row-put : {ws : List ℕ} {n₁ : ℕ} → Ready m w → Inside m c → q ≡ putOf most n → l₁ ≡ putIn most l n ws → q ≡ Next n₁ → rowWords (row i x) ≡ ws → Does m most w w n l l₁ (Done c n₁) (oneRow (inMessage m) i x (stateOf m most w c n))
   unfolding oneRow _>>=_
-  row-put {n₁ = n₁} g i h s z v = pushes x (λ s. ok ([], s)) h s z v (ends most n₁ c g i)
+  row-put {n₁ = n₁} g a h s z v = pushes (row i x) (λ s. ok ([], s)) h s z v (ends most n₁ c g a)
 
-  pub row-not : q ≡ putOf most n → q ≡ Full → Does m most w w n l l₁ (Refused 31) (oneRow (inMessage m) x (stateOf m most w c n))
+  pub row-not : q ≡ putOf most n → q ≡ Full → Does m most w w n l l₁ (Refused 31) (oneRow (inMessage m) i x (stateOf m most w c n))
   unfolding oneRow
-  row-not h z = push-not c (λ s. ok (x ∷ [], s)) h z
+  row-not h z = push-not c (λ s. ok (row i x ∷ [], s)) h z

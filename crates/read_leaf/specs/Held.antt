@@ -11,7 +11,7 @@ use Rattle.laws.specs.Facts.{bind-same}
 use Rattle.label.specs.declared.cursor.Cursor.{Cursor}
 use Rattle.table.specs.Held.{leafIn}
 use Rattle.table.specs.declared.nodes.Leaf as code
-use Rattle.read_leaf.specs.declared.Step.{Step}
+use Rattle.read_leaf.specs.declared.Progress.{Progress}
 use Rattle.read_leaf.specs.State.{Walks}
 use Rattle.read_leaf.specs.Does.{along}
 use Rattle.read_leaf.specs.Meaning.{heldLeaf, heldOf}
@@ -34,15 +34,15 @@ module _ (A : Source) (modes : ℕ) (held : ℕ → Held) (k : ℕ) where
   text-at (pos n) s = refl
   text-at (negsuc n) s = refl
 
-  pub leaf-at : (x : Leaf) (l : Option ℤ) (s : State A) → leaf A modes (λ i. held k) k x l s ≡ leaf A modes held k x l s
+  pub leaf-at : (x : Leaf) (i : ℕ) (l : Option ℤ) (s : State A) → leaf A modes (λ j. held k) k x i l s ≡ leaf A modes held k x i l s
   unfolding leaf fromKey
-  leaf-at string l s = bind-same _ _ _ (λ y. rw (text-at (y .0) (y .1)))
-  leaf-at bytes l s = bind-same _ _ _ (λ y. rw (text-at (y .0) (y .1)))
-  leaf-at varint l s = refl
-  leaf-at float64 l s = refl
-  leaf-at (fixed n) l s = refl
+  leaf-at string i l s = bind-same _ _ _ (λ y. rw (text-at (y .0) (y .1)))
+  leaf-at bytes i l s = bind-same _ _ _ (λ y. rw (text-at (y .0) (y .1)))
+  leaf-at varint i l s = refl
+  leaf-at float64 i l s = refl
+  leaf-at (fixed n) i l s = refl
 
-pub held-walks : {m w w₁ l l₁ : List ℕ} {n : ℕ} {r : Step} {x : code.Leaf} {dedup : Bool} (modes : ℕ) (held : ℕ → Held) (k : ℕ) (front : Option ℤ) (c : Cursor) → x ≡ leafIn (held k .leaf) → dedup ≡ held k .dedup
-    → Walks m w w₁ c n l l₁ r (leaf (inMessage m) modes (λ i. heldOf x dedup) k (heldLeaf x) front) → Walks m w w₁ c n l l₁ r (leaf (inMessage m) modes held k (held k .leaf) front)
-held-walks {m} {w} {w₁} {l} {l₁} {n} {r} modes held k front c e q d =
-    along (sym (leaf-at (inMessage m) modes held k (held k .leaf) front _)) (subst (λ (h : Held). Walks m w w₁ c n l l₁ r (leaf (inMessage m) modes (λ i. h) k (h .leaf) front)) (held-is (held k) e q) d)
+pub held-walks : {m w w₁ l l₁ : List ℕ} {n : ℕ} {r : Progress} {x : code.Leaf} {dedup : Bool} (modes : ℕ) (held : ℕ → Held) (k i : ℕ) (front : Option ℤ) (c : Cursor) → x ≡ leafIn (held k .leaf) → dedup ≡ held k .dedup
+    → Walks m w w₁ c n l l₁ r (leaf (inMessage m) modes (λ j. heldOf x dedup) k (heldLeaf x) i front) → Walks m w w₁ c n l l₁ r (leaf (inMessage m) modes held k (held k .leaf) i front)
+held-walks {m} {w} {w₁} {l} {l₁} {n} {r} modes held k i front c e q d =
+    along (sym (leaf-at (inMessage m) modes held k (held k .leaf) i front _)) (subst (λ (h : Held). Walks m w w₁ c n l l₁ r (leaf (inMessage m) modes (λ j. h) k (h .leaf) i front)) (held-is (held k) e q) d)

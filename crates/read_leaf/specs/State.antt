@@ -15,8 +15,8 @@ use Rattle.store.specs.Store.{lookup}
 use Rattle.store.specs.Words.{startOf}
 use Rattle.store.specs.Same.{Same}
 use Rattle.read_literals.specs.Words.{storeOf, Good}
-use Rattle.read_leaf.specs.declared.Step.{Step}
-use Rattle.read_leaf.specs.declared.Step.the-variants.{Done, Refused}
+use Rattle.read_leaf.specs.declared.Progress.{Progress}
+use Rattle.read_leaf.specs.declared.Progress.the-variants.{Done, Refused}
 
 abbrev pub cursorOf : Reading → Cursor
 cursorOf p = record { at = p .at; end = p .end }
@@ -51,7 +51,7 @@ pub record Holds (m : List ℕ) (most : ℕ) (w w′ : List ℕ) (n : ℕ) (s : 
   pub same : Same w w′
 
 -- what an answer of the definition is for the code
-abbrev pub stepOf : {m : List ℕ} → ℕ → Answer (List (Row Place) × State (inMessage m)) → Step
+abbrev pub stepOf : {m : List ℕ} → ℕ → Answer (List (Row Place) × State (inMessage m)) → Progress
 stepOf n (ok r) = Done (cursorOf (r .1 .core)) (n + length (r .0))
 stepOf n (refuse e i) = Refused e
 
@@ -61,12 +61,12 @@ Left m most w w′ n before now (ok r) = (now ≡ sets before (rowWidth * n) (wo
 Left m most w w′ n before now (refuse e i) = (i ≡ 0) × Same w w′
 
 -- A step that began with the work w and n rows, and ended with the work w′. After a refusal nothing is said of the rows, and of the work that the caller's words are as they were.
-pub record Does (m : List ℕ) (most : ℕ) (w w′ : List ℕ) (n : ℕ) (before now : List ℕ) (r : Step) (a : Answer (List (Row Place) × State (inMessage m))) : Type 0 where
+pub record Does (m : List ℕ) (most : ℕ) (w w′ : List ℕ) (n : ℕ) (before now : List ℕ) (r : Progress) (a : Answer (List (Row Place) × State (inMessage m))) : Type 0 where
   pub answer : r ≡ stepOf n a
   pub left : Left m most w w′ n before now a
 
 -- in a contract: f is the definition of the step, and c the core as far as it has been read before
-abbrev pub Walks : (m w w′ : List ℕ) → Cursor → ℕ → List ℕ → List ℕ → Step → (State (inMessage m) → Answer (List (Row Place) × State (inMessage m))) → Type 0
+abbrev pub Walks : (m w w′ : List ℕ) → Cursor → ℕ → List ℕ → List ℕ → Progress → (State (inMessage m) → Answer (List (Row Place) × State (inMessage m))) → Type 0
 Walks m w w′ c n before now r f = Does m (mostRows (length before)) w w′ n before now r (f (stateOf m (mostRows (length before)) w c n))
 
 -- The same of a step that reads something of the message and writes no row.

@@ -9,8 +9,8 @@ use Rattle.laws.specs.Facts.{ok-pair, absurd-ok}
 use Rattle.label.specs.declared.cursor.Cursor.{Cursor}
 use Rattle.read_pieces.specs.Pieces.{Inside}
 use Rattle.store.specs.Same.{Same, same-self, same-then}
-use Rattle.read_leaf.specs.declared.Step.{Step}
-use Rattle.read_leaf.specs.declared.Step.the-variants.{Refused}
+use Rattle.read_leaf.specs.declared.Progress.{Progress}
+use Rattle.read_leaf.specs.declared.Progress.the-variants.{Refused}
 use Rattle.read_leaf.specs.State.{Ready, stateOf, Does, Took}
 use Rattle.read_leaf.specs.Does.{along, refuses-after, holds-then}
 
@@ -57,7 +57,7 @@ module _ {X : Type 0} {m : List ℕ} {most n : ℕ} where
     took-same a t q = took-kept a t q .2
 
 -- what was held before is not asked for afterwards, but for the caller's words
-does-from : {m w w₁ w₂ l l₂ : List ℕ} {most n : ℕ} {r : Step} (a : Answer (List (Row Place) × State (inMessage m))) → Same w w₁ → Does m most w₁ w₂ n l l₂ r a → Does m most w w₂ n l l₂ r a
+does-from : {m w w₁ w₂ l l₂ : List ℕ} {most n : ℕ} {r : Progress} (a : Answer (List (Row Place) × State (inMessage m))) → Same w w₁ → Does m most w₁ w₂ n l l₂ r a → Does m most w w₂ n l l₂ r a
 does-from (ok x) k d = record { answer = d .answer; left = (d .left .0, holds-then k (d .left .1), d .left .2) }
 does-from (refuse e i) k d = record { answer = d .answer; left = (d .left .0, same-then k (d .left .1)) }
 
@@ -67,7 +67,7 @@ took-from (refuse e i) k t = record { answer = t .answer; left = (t .left .0, sa
 
 module _ {X : Type 0} {m w w₁ : List ℕ} {most n : ℕ} {r₁ : Answer (X × Cursor)} (a : Answer (X × State (inMessage m))) (t : Took m most w w₁ n r₁ a) where
   -- a step of the walk after it
-  pub then-does : {w₂ l l₂ : List ℕ} {x : X} {c : Cursor} {r : Step} (f : X × State (inMessage m) → Answer (List (Row Place) × State (inMessage m)))
+  pub then-does : {w₂ l l₂ : List ℕ} {x : X} {c : Cursor} {r : Progress} (f : X × State (inMessage m) → Answer (List (Row Place) × State (inMessage m)))
       → r₁ ≡ ok (x, c) → Does m most w₁ w₂ n l l₂ r (f (x, stateOf m most w₁ c n)) → Does m most w w₂ n l l₂ r (a >>= f)
   unfolding _>>=_
   then-does f q d = along (ap (λ b. b >>= f) (took-is a t q)) (does-from _ (took-same a t q) d)

@@ -13,7 +13,7 @@ ghost use Rattle.read_literals.specs.Words.{storeOf};
 ghost use Rattle.read_leaf.specs.State.{Ready, Takes};
 ghost use Rattle.read_leaf.specs.Meaning.{partOf, numberOf, partRefusal, numberRefusal, PartIn};
 ghost use Rattle.read_leaf.specs.Contracts.{Opened};
-use super::Step;
+use super::Progress;
 use label::Cursor;
 use label::Label;
 use read_pieces::Given;
@@ -32,24 +32,24 @@ pub enum Number {
 
 impl Part {
     // The refusal, for the walk; where there is none, how far the core has been read.
-    pub fn refusal(self) -> Step
+    pub fn refusal(self) -> Progress
         ensures { λ r. ⌜ r ≡ partRefusal self ⌝ }
     {
         match self {
-            Part::Refused(number) => Step::Refused(number),
-            Part::At(_, _, c) => Step::Done(c, 0),
+            Part::Refused(number) => Progress::Refused(number),
+            Part::At(_, _, c) => Progress::Done(c, 0),
         }
     }
 }
 
 impl Number {
     // The same.
-    pub fn refusal(self) -> Step
+    pub fn refusal(self) -> Progress
         ensures { λ r. ⌜ r ≡ numberRefusal self ⌝ }
     {
         match self {
-            Number::Refused(number) => Step::Refused(number),
-            Number::Is(_, c) => Step::Done(c, 0),
+            Number::Refused(number) => Progress::Refused(number),
+            Number::Is(_, c) => Progress::Done(c, 0),
         }
     }
 }

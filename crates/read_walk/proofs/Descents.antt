@@ -10,13 +10,13 @@ use lib.ListN.{length}
 use Rattle.format.specs.Table.{nodeAt, NULLABLE}
 use Rattle.label.specs.declared.cursor.Cursor.{Cursor}
 use Rattle.read_pieces.specs.Pieces.{Inside}
-use Rattle.read_leaf.specs.declared.Step.{Step}
-use Rattle.read_leaf.specs.declared.Step.the-variants.{Refused}
+use Rattle.read_leaf.specs.declared.Progress.{Progress}
+use Rattle.read_leaf.specs.declared.Progress.the-variants.{Refused}
 use Rattle.read_leaf.specs.declared.front.Front.the-variants.{Open}
 use Rattle.read_leaf.specs.State.{mostRows, Ready}
 use Rattle.read_leaf.specs.Push.{putOf, putIn}
 use Rattle.wire_types.specs.Typed.{Sized, FitsNode, FitsWire}
-use Rattle.wire_types.specs.Nodes.{node-inside, fits-entry}
+use Rattle.wire_types.specs.Nodes.{node-inside, fits-entry, first-fits}
 use Rattle.wire_types.specs.Run.{absentIn}
 use Rattle.wire_types.specs.Path.{some-left}
 use Rattle.read_walk.specs.declared.opening.Opening.the-variants.{Read}
@@ -32,7 +32,7 @@ use Rattle.read_walk.specs.Descent.{HoldsOne, Holding, Typed, Comes, End
 use Rattle.read_walk.proofs.Fronts.{open-here}
 use Rattle.read_walk.proofs.Steps.{value-here, value-fits, record-fits}
 use Rattle.read_walk.proofs.Parents.{made-next, made-not}
-use Rattle.read_walk.proofs.Several.{as-values, fits-field}
+use Rattle.read_walk.proofs.Several.{as-values}
 
 -- ---- one step
 
@@ -52,11 +52,11 @@ module _ {table m : List ℕ} {node : ℕ} {c : Cursor} where
     holder-fits {left} {w} f = go b (x .kind) (x .holds .fields) (value-fits table w left node node left false (not-null _ b (x .kind)) refl refl f)
       where
         go : (y : Bool) → nodeAt table node .kind ≡ parentKind y → (y ≡ false → 1 ≡ nodeAt table node .argument) → FitsWire table w left node → FitsNode table w (left - 1) (node + 1)
-        go false k a g = fits-field table w (left - 1) (node + 1) (record-fits table w node left 1 k (a refl) g)
+        go false k a g = first-fits (record-fits table w node left 1 k (a refl) g) (λ z. omega arith)
         go true k a g = fits-entry table w node left g k
 
     -- no label stands in front of it but its own
-    holder-reads : Inside m c → (w w′ l l′ : List ℕ) (n : ℕ) (r : Step) (modes : ℕ) → Ready m w → ReadsWire m w w′ l l′ c n r table modes node none → ReadsValue m w w′ l l′ c n r table modes node false
+    holder-reads : Inside m c → (w w′ l l′ : List ℕ) (n : ℕ) (r : Progress) (modes : ℕ) → Ready m w → ReadsWire m w w′ l l′ c n r table modes node node none → ReadsValue m w w′ l l′ c n r table modes node false
     holder-reads i w w′ l l′ n r modes ready y =
         value-here table m w l modes node n false false c (Read (Here Open) c) (not-null _ b (x .kind)) ready (open-here m modes false false c refl i) refl refl refl y
 
@@ -65,10 +65,10 @@ module _ {table m : List ℕ} {node : ℕ} {c : Cursor} where
       pub holder-ends : {e k : ℕ} {o : Bool} → Inside m c → o ≡ false → p ≡ parent.Refused e → k ≡ parents.refusalOf p → Ends table m l l₁ node o c n k
       holder-ends i z q v =
           let (f, g) = made-not 1 next (putOf (mostRows (length l)) n) u q v in
-          rw (z, ← g) (record { refused = λ w modes ready. holder-reads i w w l l₁ n (Refused 31) modes ready (x .holds .full w l l₁ n modes ready f) })
+          rw (z, ← g) (record { refused = λ w modes ready. holder-reads i w w l l₁ n (Refused 31) modes ready (x .holds .full w l l₁ n modes node ready f) })
 
       pub holder-comes : {k n₁ left : ℕ} {d : Cursor} {o o₁ : Bool} → Inside m c → Typed table m left node → 1 ≤ left → o ≡ false → p ≡ parent.Made k d n₁
-          → l₁ ≡ putIn (mostRows (length l)) l n (parentRow b ∷ 1 ∷ 0 ∷ []) → length l₁ ≡ length l → o₁ ≡ absentIn b (nodeAt table (node + 1))
+          → l₁ ≡ putIn (mostRows (length l)) l n (parentRow b ∷ 1 ∷ 0 ∷ node ∷ []) → length l₁ ≡ length l → o₁ ≡ absentIn b (nodeAt table (node + 1))
           → Comes table m l l₁ left node o c n (left - 1) (node + 1) o₁ next n₁
       holder-comes {n₁ = n₁} i t f e q s y z =
           let h = made-next 1 next (putOf (mostRows (length l)) n) u q in
@@ -77,7 +77,7 @@ module _ {table m : List ℕ} {node : ℕ} {c : Cursor} where
             below = omega arith;
             path = omega arith;
             fits = λ w g. holder-fits g;
-            onward = λ w w′ l′ r modes ready v. holder-reads i w w′ l l′ n r modes ready (x .holds .onward w w′ l l₁ l′ n n₁ r modes ready h s y (as-values b v));
+            onward = λ w w′ l′ r modes ready v. holder-reads i w w′ l l′ n r modes ready (x .holds .onward w w′ l l₁ l′ n n₁ r modes node ready h s y (as-values b v));
           })
 
 -- ---- one after another

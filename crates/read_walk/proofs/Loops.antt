@@ -16,12 +16,12 @@ use Rattle.label.specs.declared.cursor.Cursor.{Cursor}
 use Rattle.read_pieces.specs.Pieces.{Inside}
 use Rattle.store.specs.Words.{word}
 use Rattle.store.specs.Same.{Same, same-self, same-then}
-use Rattle.read_leaf.specs.declared.Step.{Step}
-use Rattle.read_leaf.specs.declared.Step.the-variants.{Done, Refused}
+use Rattle.read_leaf.specs.declared.Progress.{Progress}
+use Rattle.read_leaf.specs.declared.Progress.the-variants.{Done, Refused}
 use Rattle.read_leaf.specs.State.{mostRows, Ready, stateOf, Does}
 use Rattle.read_leaf.specs.Does.{along, ends, seqs, seqs-not, done-ready, done-inside, done-same}
 use Rattle.wire_types.specs.Typed.{Sized, heldIn, IsNode, AreFields, FitsNode, FitFields}
-use Rattle.wire_types.specs.Nodes.{node-some, node-kept, First, first-of, first-depth}
+use Rattle.wire_types.specs.Nodes.{node-some, node-kept, fits-kept, First, first-of, first-deep, first-fits}
 use Rattle.read_walk.specs.Opening.{valueAt}
 use Rattle.read_walk.specs.Walk.{ReadsValue, ReadsFields, ReadsEntries}
 
@@ -31,7 +31,7 @@ Out m = Answer (List (Row Place) × State (inMessage m))
 
 -- who does a′ from the second place on has done a from the first on
 pub record Leads (m : List ℕ) (most : ℕ) (w l : List ℕ) (n : ℕ) (a : Out m) (w′ l′ : List ℕ) (n′ : ℕ) (a′ : Out m) : Type 0 where
-  pub onward : {w₂ l₂ : List ℕ} {r : Step} → Does m most w′ w₂ n′ l′ l₂ r a′ → Does m most w w₂ n l l₂ r a
+  pub onward : {w₂ l₂ : List ℕ} {r : Progress} → Does m most w′ w₂ n′ l′ l₂ r a′ → Does m most w w₂ n l l₂ r a
 
 leads-self : {m w l : List ℕ} {most n : ℕ} {a : Out m} → Leads m most w l n a w l n a
 leads-self = record { onward = λ d. d }
@@ -64,18 +64,18 @@ module _ (table m w₀ l₀ : List ℕ) (modes node count : ℕ) (c₀ : Cursor)
 
   module _ (w l : List ℕ) (k : ℕ) (c : Cursor) (n : ℕ) (x : EntriesAt table m w₀ l₀ modes node count c₀ n₀ w l k c n) (whole : Sized table) where
     pub entries-fits : {left : ℕ} → FitsNode table w₀ left node → FitsNode table w left node
-    entries-fits f = record { type = f .type; is = node-kept table w₀ w node (f .type) whole (x .same .at) (f .is); deep = f .deep; most = f .most }
+    entries-fits f = fits-kept whole (x .same .at) f
 
     -- what the entry has done, with as many rows as there may be
-    entry-does : {w₁ l₁ : List ℕ} {r : Step} (v : Node) → IsNode table w₀ node v → ReadsValue m w w₁ l l₁ c n r table modes node false
+    entry-does : {w₁ l₁ : List ℕ} {r : Progress} (v : Node) → IsNode table w₀ node v → ReadsValue m w w₁ l l₁ c n r table modes node false
         → Does m (mostRows (length l₀)) w w₁ n l l₁ r (valueAt m modes (heldIn table) false v (stateOf m (mostRows (length l₀)) w c n))
     entry-does {w₁} {l₁} {r} v h y = subst (λ i. Does m (mostRows i) w w₁ n l l₁ r (valueAt m modes (heldIn table) false v (stateOf m (mostRows i) w c n))) (x .lent)
         (y .does v (node-kept table w₀ w node v whole (x .same .at) h))
 
-    pub entries-not : {w₁ l₁ : List ℕ} {r r′ : Step} {e : ℕ} → (k ≡ 0 → ⊥) → ReadsValue m w w₁ l l₁ c n r table modes node false → r ≡ Refused e → r′ ≡ r → ReadsEntries m w₀ w₁ l₀ l₁ c₀ n₀ r′ table modes node count
+    pub entries-not : {w₁ l₁ : List ℕ} {r r′ : Progress} {e : ℕ} → (k ≡ 0 → ⊥) → ReadsValue m w w₁ l l₁ c n r table modes node false → r ≡ Refused e → r′ ≡ r → ReadsEntries m w₀ w₁ l₀ l₁ c₀ n₀ r′ table modes node count
     entries-not z y q u = rw u (record { does = λ v h. x .leads v h .onward (along (entries-some k _ _ z) (seqs-not _ _ (entry-does v h y) q)) })
 
-    pub entries-again : {left n₁ : ℕ} {w₁ l₁ : List ℕ} {c₁ : Cursor} {r : Step} → FitsNode table w₀ left node → (k ≡ 0 → ⊥) → length l₁ ≡ length l → length w₁ ≡ length w
+    pub entries-again : {left n₁ : ℕ} {w₁ l₁ : List ℕ} {c₁ : Cursor} {r : Progress} → FitsNode table w₀ left node → (k ≡ 0 → ⊥) → length l₁ ≡ length l → length w₁ ≡ length w
         → ReadsValue m w w₁ l l₁ c n r table modes node false → r ≡ Done c₁ n₁ → EntriesAt table m w₀ l₀ modes node count c₀ n₀ w₁ l₁ (k - 1) c₁ n₁
     entries-again f z e₁ e₂ y q =
         let d = entry-does (f .type) (f .is) y in
@@ -142,13 +142,9 @@ module _ (table m w₀ l₀ : List ℕ) (modes node₀ count : ℕ) (c₀ : Curs
       o = omittable (nodeAt table node)
 
       splits-depth : (depth (f .first) ≤ depthFields ws) × (depthFields (f .others) ≤ depthFields ws) × (k ≡ suc (fieldCount (f .others)))
-      splits-depth =
-          let q = first-depth o (f .first) (f .others) in
-          let a : depthFields (y .rest) ≡ depthFields (field o (f .first) (f .others)) = ap depthFields (f .splits) in
-          let b : fieldCount (y .rest) ≡ fieldCount (field o (f .first) (f .others)) = ap fieldCount (f .splits) in
-          (omega (arith, y .deep, q .0), omega (arith, y .deep, q .1), omega (arith, y .counted, q .2))
+      splits-depth = let q = first-deep f in (omega (arith, y .deep, q .0), omega (arith, y .deep, q .1), omega (arith, y .counted, q .2))
 
-      field-does : {w₁ l₁ : List ℕ} {r : Step} → ReadsValue m w w₁ l l₁ c n r table modes node o
+      field-does : {w₁ l₁ : List ℕ} {r : Progress} → ReadsValue m w w₁ l l₁ c n r table modes node o
           → Does m (mostRows (length l₀)) w w₁ n l l₁ r (valueAt m modes (heldIn table) o (f .first) (stateOf m (mostRows (length l₀)) w c n))
       field-does {w₁} {l₁} {r} v = subst (λ i. Does m (mostRows i) w w₁ n l l₁ r (valueAt m modes (heldIn table) o (f .first) (stateOf m (mostRows i) w c n))) (x .lent)
           (v .does (f .first) (node-kept table w₀ w node (f .first) whole (x .same .at) (f .is)))
@@ -158,7 +154,7 @@ module _ (table m w₀ l₀ : List ℕ) (modes node₀ count : ℕ) (c₀ : Curs
           ≡ (valueAt m modes (heldIn table) o (f .first) s >>= (λ a. all (inMessage m) modes (heldIn table) (f .others) (a .1) >>= (λ b. ok (a .0 ++ b .0, b .1))))
       rest-splits s = ap (λ vs. all (inMessage m) modes (heldIn table) vs s) (f .splits) ∙ all-some modes (heldIn table) o (f .first) (f .others) s
 
-      field-next : {next n₁ : ℕ} {w₁ l₁ : List ℕ} {c₁ : Cursor} {r : Step} → next ≡ word w node → ReadsValue m w w₁ l l₁ c n r table modes node o → r ≡ Done c₁ n₁
+      field-next : {next n₁ : ℕ} {w₁ l₁ : List ℕ} {c₁ : Cursor} {r : Progress} → next ≡ word w node → ReadsValue m w w₁ l l₁ c n r table modes node o → r ≡ Done c₁ n₁
           → Rest table m w₀ l₀ modes c₀ n₀ ws w₁ l₁ (k - 1) next c₁ n₁
       field-next {next} e₁ v q =
           let t = node-top _ _ _ _ node (f .first) (f .is) in
@@ -174,10 +170,11 @@ module _ (table m w₀ l₀ : List ℕ) (modes node₀ count : ℕ) (c₀ : Curs
     module _ {left : ℕ} (g : FitFields table w₀ left node₀ count) where
       pub fields-fits : (k ≡ 0 → ⊥) → FitsNode table w left node
       fields-fits z =
-          let t = first-of table w₀ node (x .rest (g .types) (g .are) (g .counted) .rest) (x .rest (g .types) (g .are) (g .counted) .are) (λ q. z (sym (x .rest (g .types) (g .are) (g .counted) .counted) ∙ q)) in
-          record { type = t .first; is = node-kept table w₀ w node (t .first) whole (x .same .at) (t .is); deep = omega (arith, splits-depth (g .types) (g .are) (g .counted) z .0, g .deep); most = g .most }
+          let y = x .rest (g .types) (g .are) (g .counted) in
+          let h : FitFields table w₀ left node k = record { types = y .rest; are = y .are; counted = y .counted; deep = omega (arith, y .deep, g .deep); most = g .most } in
+          fits-kept whole (x .same .at) (first-fits h z)
 
-      pub fields-again : {next n₁ : ℕ} {w₁ l₁ : List ℕ} {c₁ : Cursor} {r : Step} {o : Bool} → (k ≡ 0 → ⊥) → o ≡ omittable (nodeAt table node) → next ≡ word w node → length l₁ ≡ length l → length w₁ ≡ length w
+      pub fields-again : {next n₁ : ℕ} {w₁ l₁ : List ℕ} {c₁ : Cursor} {r : Progress} {o : Bool} → (k ≡ 0 → ⊥) → o ≡ omittable (nodeAt table node) → next ≡ word w node → length l₁ ≡ length l → length w₁ ≡ length w
           → ReadsValue m w w₁ l l₁ c n r table modes node o → r ≡ Done c₁ n₁ → FieldsAt table m w₀ l₀ modes node₀ count c₀ n₀ w₁ l₁ (k - 1) next c₁ n₁
       fields-again z t b e₁ e₂ y q =
           let v = rw t at y in
@@ -191,7 +188,7 @@ module _ (table m w₀ l₀ : List ℕ) (modes node₀ count : ℕ) (c₀ : Curs
             rest = λ ws h e. field-next ws h e z b v q;
           }
 
-    pub fields-not : {w₁ l₁ : List ℕ} {r r′ : Step} {e : ℕ} {o : Bool} → (k ≡ 0 → ⊥) → o ≡ omittable (nodeAt table node) → ReadsValue m w w₁ l l₁ c n r table modes node o → r ≡ Refused e → r′ ≡ r
+    pub fields-not : {w₁ l₁ : List ℕ} {r r′ : Progress} {e : ℕ} {o : Bool} → (k ≡ 0 → ⊥) → o ≡ omittable (nodeAt table node) → ReadsValue m w w₁ l l₁ c n r table modes node o → r ≡ Refused e → r′ ≡ r
         → ReadsFields m w₀ w₁ l₀ l₁ c₀ n₀ r′ table modes node₀ count
     fields-not z t y q u = rw u (record { does = λ ws h e. x .rest ws h e .leads .onward (along (rest-splits ws h e z _) (seqs-not _ _ (field-does ws h e z (rw t at y)) q)) })
 

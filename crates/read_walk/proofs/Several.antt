@@ -10,17 +10,15 @@ use Rattle.format.specs.Table.{nodeAt, omittable, Node, Fields, noField, field,
 use Rattle.format.specs.Row.{Place, Row}
 use Rattle.format.specs.Read.{inMessage, State, Read, entries, all, fieldCount}
 use Rattle.laws.specs.Facts.{by-bool, absurd-bool}
-use Rattle.laws.specs.Tree.{depthFields}
 use Rattle.laws.specs.Kinds.{by-field}
 use Rattle.label.specs.declared.cursor.Cursor.{Cursor}
 use Rattle.read_pieces.specs.Pieces.{Inside}
-use Rattle.read_leaf.specs.declared.Step.{Step}
-use Rattle.read_leaf.specs.declared.Step.the-variants.{Done, Refused}
+use Rattle.read_leaf.specs.declared.Progress.{Progress}
+use Rattle.read_leaf.specs.declared.Progress.the-variants.{Done, Refused}
 use Rattle.read_leaf.specs.State.{Ready, Walks}
 use Rattle.read_leaf.specs.Does.{along}
-use Rattle.wire_types.specs.Typed.{Sized, heldIn, FitsNode, FitFields}
-use Rattle.wire_types.specs.Nodes.{first-of, first-depth}
-use Rattle.wire_types.specs.Run.{FitRun, absentIn, nextIn}
+use Rattle.wire_types.specs.Typed.{Sized, heldIn, FitsNode}
+use Rattle.wire_types.specs.Run.{FitRun, absentIn, nextIn, absent-is, next-is}
 use Rattle.read_walk.specs.Opening.{valueAt}
 use Rattle.read_walk.specs.Walk.{refusalOf, ReadsValue, ReadsFields, ReadsEntries, ReadsValues}
 use Rattle.read_walk.proofs.Loops.{EntriesAt, entries-begin, entries-fits, entries-not, entries-again, entries-end, FieldsAt, fields-begin, fields-fits, fields-not, fields-again, fields-end}
@@ -54,31 +52,27 @@ module _ (table m w₀ l₀ : List ℕ) (modes node₀ : ℕ) (repeated : Bool) 
         (λ e. fields-fits table m w₀ l₀ modes node₀ count c₀ n₀ w l k node c n (x .fields e) whole (g .fields e) z)
 
     -- a value of it
-    module _ {w₁ l₁ : List ℕ} {r : Step} {o : Bool} (z : k ≡ 0 → ⊥) (t : o ≡ absentIn repeated (nodeAt table node)) (y : ReadsValue m w w₁ l l₁ c n r table modes node o) where
-      absent-is : {b : Bool} → repeated ≡ b → o ≡ absentIn b (nodeAt table node)
-      absent-is e = t ∙ ap (λ b. absentIn b (nodeAt table node)) e
-
+    module _ {w₁ l₁ : List ℕ} {r : Progress} {o : Bool} (z : k ≡ 0 → ⊥) (t : o ≡ absentIn repeated (nodeAt table node)) (y : ReadsValue m w w₁ l l₁ c n r table modes node o) where
       entry : repeated ≡ true → ReadsValue m w w₁ l l₁ c n r table modes node₀ false
-      entry e = subst₂ (λ (i : ℕ) (b : Bool). ReadsValue m w w₁ l l₁ c n r table modes i b) (x .stays e) (absent-is e) y
+      entry e = subst₂ (λ (i : ℕ) (b : Bool). ReadsValue m w w₁ l l₁ c n r table modes i b) (x .stays e) (absent-is e (nodeAt table node) t) y
 
-      pub values-not : {r′ : Step} {e : ℕ} → r ≡ Refused e → r′ ≡ r → ReadsValues m w₀ w₁ l₀ l₁ c₀ n₀ r′ table modes node₀ repeated count
+      pub values-not : {r′ : Progress} {e : ℕ} → r ≡ Refused e → r′ ≡ r → ReadsValues m w₀ w₁ l₀ l₁ c₀ n₀ r′ table modes node₀ repeated count
       values-not q u = record {
         entries = λ e. entries-not table m w₀ l₀ modes node₀ count c₀ n₀ w l k c n (x .entries e) whole z (entry e) q u;
-        fields = λ e. fields-not table m w₀ l₀ modes node₀ count c₀ n₀ w l k node c n (x .fields e) whole z (absent-is e) y q u;
+        fields = λ e. fields-not table m w₀ l₀ modes node₀ count c₀ n₀ w l k node c n (x .fields e) whole z (absent-is e (nodeAt table node) t) y q u;
       }
 
       pub values-again : {left next n₁ : ℕ} {c₁ : Cursor} → FitRun table w₀ left node₀ repeated count → next ≡ nextIn repeated node w → length l₁ ≡ length l → length w₁ ≡ length w → r ≡ Done c₁ n₁
           → ValuesAt table m w₀ l₀ modes node₀ repeated count c₀ n₀ w₁ l₁ (k - 1) next c₁ n₁
       values-again {left} {next} {n₁} {c₁} g b e₁ e₂ q =
-          let next-is : (j : Bool) → repeated ≡ j → next ≡ nextIn j node w = λ j e. b ∙ ap (λ i. nextIn i node w) e in
           let es : repeated ≡ true → EntriesAt table m w₀ l₀ modes node₀ count c₀ n₀ w₁ l₁ (k - 1) c₁ n₁ = λ e. entries-again table m w₀ l₀ modes node₀ count c₀ n₀ w l k c n (x .entries e) whole (g .entries e) z e₁ e₂ (entry e) q in
-          let fs : repeated ≡ false → FieldsAt table m w₀ l₀ modes node₀ count c₀ n₀ w₁ l₁ (k - 1) next c₁ n₁ = λ e. fields-again table m w₀ l₀ modes node₀ count c₀ n₀ w l k node c n (x .fields e) whole (g .fields e) z (absent-is e) (next-is false e) e₁ e₂ y q in
+          let fs : repeated ≡ false → FieldsAt table m w₀ l₀ modes node₀ count c₀ n₀ w₁ l₁ (k - 1) next c₁ n₁ = λ e. fields-again table m w₀ l₀ modes node₀ count c₀ n₀ w l k node c n (x .fields e) whole (g .fields e) z (absent-is e (nodeAt table node) t) (next-is e node w b) e₁ e₂ y q in
           record {
             lent = e₁ ∙ x .lent;
             worked = e₂ ∙ x .worked;
             ready = by-bool repeated (λ e. es e .ready) (λ e. fs e .ready);
             inside = by-bool repeated (λ e. es e .inside) (λ e. fs e .inside);
-            stays = λ e. next-is true e ∙ x .stays e;
+            stays = λ e. next-is e node w b ∙ x .stays e;
             entries = es;
             fields = fs;
           }
@@ -87,7 +81,7 @@ module _ (table m w₀ l₀ : List ℕ) (modes node₀ : ℕ) (repeated : Bool) 
     values-end z = record { entries = λ e. entries-end table m w₀ l₀ modes node₀ count c₀ n₀ w l k c n (x .entries e) whole z; fields = λ e. fields-end table m w₀ l₀ modes node₀ count c₀ n₀ w l k node c n (x .fields e) whole z }
 
 -- the number of a refusal, handed on
-pub handed : {r : Step} {e k : ℕ} → r ≡ Refused e → k ≡ refusalOf r → Refused k ≡ r
+pub handed : {r : Progress} {e k : ℕ} → r ≡ Refused e → k ≡ refusalOf r → Refused k ≡ r
 handed q u = ap Refused (u ∙ ap refusalOf q) ∙ sym q
 
 -- ---- none, and one alone
@@ -111,27 +105,19 @@ unfolding all fieldCount _>>=_
 all-one {m} modes held o v noField s z = with-none (valueAt m modes held o v s)
 all-one modes held o v (field o′ u us) s z = absurd (omega arith)
 
-pub one-entry : {m w w′ l l′ table : List ℕ} {c : Cursor} {n modes node : ℕ} {r : Step} → ReadsValues m w w′ l l′ c n r table modes node true 1 → ReadsValue m w w′ l l′ c n r table modes node false
+pub one-entry : {m w w′ l l′ table : List ℕ} {c : Cursor} {n modes node : ℕ} {r : Progress} → ReadsValues m w w′ l l′ c n r table modes node true 1 → ReadsValue m w w′ l l′ c n r table modes node false
 one-entry x = record { does = λ v h. along (sym (entries-one _ _)) (x .entries refl .does v h) }
 
-as-entry : {m w w′ l l′ table : List ℕ} {c : Cursor} {n modes node : ℕ} {r : Step} → ReadsValue m w w′ l l′ c n r table modes node false → ReadsEntries m w w′ l l′ c n r table modes node 1
+as-entry : {m w w′ l l′ table : List ℕ} {c : Cursor} {n modes node : ℕ} {r : Progress} → ReadsValue m w w′ l l′ c n r table modes node false → ReadsEntries m w w′ l l′ c n r table modes node 1
 as-entry x = record { does = λ v h. along (entries-one _ _) (x .does v h) }
 
-as-field : {m w w′ l l′ table : List ℕ} {c : Cursor} {n modes node : ℕ} {r : Step} → ReadsValue m w w′ l l′ c n r table modes node (omittable (nodeAt table node)) → ReadsFields m w w′ l l′ c n r table modes node 1
+as-field : {m w w′ l l′ table : List ℕ} {c : Cursor} {n modes node : ℕ} {r : Progress} → ReadsValue m w w′ l l′ c n r table modes node (omittable (nodeAt table node)) → ReadsFields m w w′ l l′ c n r table modes node 1
 as-field {m} {w} {w′} {l} {l′} {table} {c} {n} {modes} {node} {r} x = record {
   does = λ ws h e.
       by-field _ _ _ _ (λ vs. Walks m w w′ c n l l′ r (all (inMessage m) modes (heldIn table) vs)) node ws h (λ z. omega arith)
       (λ v vs k a b. along (all-one modes (heldIn table) (omittable (nodeAt table node)) v vs _ (omega arith)) (x .does v a));
 }
 
-pub as-values : {m w w′ l l′ table : List ℕ} {c : Cursor} {n modes node : ℕ} {r : Step} (repeated : Bool) → ReadsValue m w w′ l l′ c n r table modes node (absentIn repeated (nodeAt table node)) → ReadsValues m w w′ l l′ c n r table modes node repeated 1
+pub as-values : {m w w′ l l′ table : List ℕ} {c : Cursor} {n modes node : ℕ} {r : Progress} (repeated : Bool) → ReadsValue m w w′ l l′ c n r table modes node (absentIn repeated (nodeAt table node)) → ReadsValues m w w′ l l′ c n r table modes node repeated 1
 as-values true x = record { entries = λ e. as-entry x; fields = λ e. absurd-bool (sym e) }
 as-values false x = record { entries = λ e. absurd-bool e; fields = λ e. as-field x }
-
--- the type of the one field
-pub fits-field : (table w : List ℕ) (left node : ℕ) → FitFields table w left node 1 → FitsNode table w left node
-fits-field table w left node g =
-    let f = first-of table w node (g .types) (g .are) (λ z. omega (arith, g .counted)) in
-    let o = omittable (nodeAt table node) in
-    let e : depthFields (g .types) ≡ depthFields (field o (f .first) (f .others)) = ap depthFields (f .splits) in
-    record { type = f .first; is = f .is; deep = omega (arith, first-depth o (f .first) (f .others) .0, g .deep); most = g .most }

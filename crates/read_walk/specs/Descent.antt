@@ -7,8 +7,8 @@ use Prim.Native.Nat.{ℕ, _+_, _-_, _≤_}
 use Rattle.format.specs.Table.{nodeAt}
 use Rattle.label.specs.declared.cursor.Cursor.{Cursor}
 use Rattle.read_pieces.specs.Pieces.{Inside}
-use Rattle.read_leaf.specs.declared.Step.{Step}
-use Rattle.read_leaf.specs.declared.Step.the-variants.{Refused}
+use Rattle.read_leaf.specs.declared.Progress.{Progress}
+use Rattle.read_leaf.specs.declared.Progress.the-variants.{Refused}
 use Rattle.read_leaf.specs.State.{Ready}
 use Rattle.wire_types.specs.Typed.{FitsNode}
 use Rattle.read_walk.specs.declared.descent.Holder as holder
@@ -39,7 +39,7 @@ pub record Comes (table m before now : List ℕ) (left node : ℕ) (omittable : 
   pub below : node ≤ node′
   pub path : left′ + (node′ - node) ≡ left
   pub fits : (w : List ℕ) → FitsNode table w left node → FitsNode table w left′ node′
-  pub onward : (w w′ now′ : List ℕ) (r : Step) (modes : ℕ) → Ready m w → ReadsValue m w w′ now now′ c′ n′ r table modes node′ omittable′ → ReadsValue m w w′ before now′ c n r table modes node omittable
+  pub onward : (w w′ now′ : List ℕ) (r : Progress) (modes : ℕ) → Ready m w → ReadsValue m w w′ now now′ c′ n′ r table modes node′ omittable′ → ReadsValue m w w′ before now′ c n r table modes node omittable
 
 -- The value is refused.
 pub record Ends (table m before now : List ℕ) (node : ℕ) (omittable : Bool) (c : Cursor) (n e : ℕ) : Type 0 where

@@ -5,7 +5,7 @@ use mathlib.Core.Option.{Option, none, some}
 use Prim.Native.Nat.{ℕ}
 use lib.IntN.{ℤ}
 use Rattle.format.specs.Answer.{Answer, ok, refuse, _>>=_}
-use Rattle.format.specs.Table.{Node, Held, wireOf}
+use Rattle.format.specs.Table.{Node, Held, topOf, wireOf}
 use Rattle.format.specs.Row.{bare, nullRow, absentRow}
 use Rattle.format.specs.Read.{inMessage, State, Read, absentLabel, isLabel, isNull, takeLabel, oneRow, value, node, wire}
 use Rattle.label.specs.declared.cursor.Cursor.{Cursor}
@@ -47,11 +47,11 @@ module _ (m : List ℕ) (modes : ℕ) where
   module _ (held : ℕ → Held) where
     -- what is left to be read then
     unfoldable pub rest : Node → Opened → Read (inMessage m)
-    rest v (gone kind) s = oneRow (inMessage m) (bare kind 0) s
-    rest v (here l) s = wire (inMessage m) modes held (wireOf v) l s
+    rest v (gone kind) s = oneRow (inMessage m) (topOf v) (bare kind 0) s
+    rest v (here l) s = wire (inMessage m) modes held (wireOf v) (topOf v) l s
 
     abbrev pub valueAt : Bool → Node → Read (inMessage m)
-    valueAt o v s = value (inMessage m) o (λ l t. node (inMessage m) modes held v l t) s
+    valueAt o v s = value (inMessage m) o (topOf v) (λ l t. node (inMessage m) modes held v l t) s
 
 -- What the code's answers say of this.
 abbrev pub seenOf : seen.Seen → Opened

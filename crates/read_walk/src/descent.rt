@@ -56,7 +56,8 @@ fn holds_one(table: &[u8], m: &[u8], node: usize, c: Cursor) -> Holder
     Holder::Not
 }
 
-// What may be absent is no holder, nor is what may be null: a label stands in front of it.
+// What may be absent is no holder, nor is what may be null: a label stands in front of it. So a holder's topmost node is its
+// own.
 pub fn descend(
     table: &[u8],
     m: &[u8],
@@ -80,7 +81,7 @@ pub fn descend(
         let Holder::Of(repeated, next) = h else {
             return Descent::To(at, false, core, i, path);
         };
-        let p = parent::push_row(rows, i, repeated, 1, next);
+        let p = parent::push_row(rows, i, repeated, 1, at, next);
         let Parent::Made(_, _, written) = p else {
             return Descent::Refused(parent::refusal(p));
         };

@@ -21,19 +21,19 @@ use label::Cursor;
 use opening::Opening;
 use opening::Seen;
 use parent::Parent;
-use read_leaf::Step;
+use read_leaf::Progress;
 use read_leaf::front::Front;
 use read_leaf::push;
 use table::nodes;
 
 // The number of the refusal, 0 if it is none. Only the number is handed on: to return the answer that was refused would copy
 // all the bytes that an answer may have, which takes longer.
-fn refusal(r: Step) -> u64
+fn refusal(r: Progress) -> u64
     ensures { λ number. ⌜ number ≡ refusalOf r ⌝ }
 {
     match r {
-        Step::Refused(number) => number,
-        Step::Done(_, _) => 0,
+        Progress::Refused(number) => number,
+        Progress::Done(_, _) => 0,
     }
 }
 
@@ -45,21 +45,23 @@ fn block(
     work: &mut [u32],
     modes: u64,
     node: usize,
+    top: usize,
     front: Front,
     c: Cursor,
     n: usize,
-) -> Step
+) -> Progress
     requires { ⌜ Ready (now m) (now work) × Inside (now m) c × (nodeAt (now table) node .kind ≡ BLOCK) × (nodeAt (now table) node .argument < 32) × (15 + 4 * node ≤ length (now table)) ⌝ }
-    ensures { λ r. ⌜ ReadsWire (now (m .entry)) (now (work .entry)) (now (work .exit)) (now (rows .entry)) (now (rows .exit)) c n r (now (table .entry)) modes node (frontOf front) ⌝ }
+    ensures { λ r. ⌜ ReadsWire (now (m .entry)) (now (work .entry)) (now (work .exit)) (now (rows .entry)) (now (rows .exit)) c n r (now (table .entry)) modes node top (frontOf front) ⌝ }
 {
     let key = nodes::argument_at(table, node);
     let leaf = nodes::leaf_at(table, node + 1);
     let dedup = nodes::deduplicates(table, node);
-    read_leaf::read_leaf(m, rows, work, modes, key, leaf, dedup, front, c, n)
+    read_leaf::read_leaf(m, rows, work, modes, key, leaf, dedup, top, front, c, n)
 }
 
-// The value at a node. A path may have `left` nodes from this one on, itself among them: 32 at the root, and one less below
-// each node. A checked table has no longer one, so that this ends.
+// The value at a node, its topmost: the row of what is absent or null is under it too. A path may have `left` nodes from
+// this one on, itself among them: 32 at the root, and one less below each node. A checked table has no longer one, so that
+// this ends.
 fn value(
     table: &[u8],
     m: &[u8],
@@ -71,26 +73,27 @@ fn value(
     c: Cursor,
     n: usize,
     left: usize,
-) -> Step
+) -> Progress
     requires { ⌜ Ready (now m) (now work) × Inside (now m) c × Sized (now table) × FitsNode (now table) (now work) left node ⌝ }
     ensures { λ r. ⌜ ReadsValue (now (m .entry)) (now (work .entry)) (now (work .exit)) (now (rows .entry)) (now (rows .exit)) c n r (now (table .entry)) modes node omittable ⌝ }
 {
     let nullable = nodes::kind_at(table, node) == nodes::NULLABLE;
     let first = opening::open(m, modes, omittable, nullable, c);
     let Opening::Read(seen, next) = first else {
-        return Step::Refused(opening::refusal(first));
+        return Progress::Refused(opening::refusal(first));
     };
     match seen {
-        Seen::Gone(row) => push::row(rows, n, row, 0, 0, next),
+        Seen::Gone(row) => push::row(rows, n, row, 0, 0, node, next),
         Seen::Here(front) => {
             let own = wire_types::below(nullable, node);
             let path = wire_types::path_below(nullable, left);
-            wire(table, m, rows, work, modes, own, front, next, n, path)
+            wire(table, m, rows, work, modes, own, node, front, next, n, path)
         }
     }
 }
 
-// By the kind of the value's own node. `front` is a label in front of it that has been read.
+// By the kind of the value's own node; its row is under the topmost, `top`. `front` is a label in front of it that has been
+// read.
 fn wire(
     table: &[u8],
     m: &[u8],
@@ -98,25 +101,26 @@ fn wire(
     work: &mut [u32],
     modes: u64,
     node: usize,
+    top: usize,
     front: Front,
     c: Cursor,
     n: usize,
     left: usize,
-) -> Step
+) -> Progress
     requires { ⌜ Ready (now m) (now work) × Inside (now m) c × Sized (now table) × FitsWire (now table) (now work) left node ⌝ }
-    ensures { λ r. ⌜ ReadsWire (now (m .entry)) (now (work .entry)) (now (work .exit)) (now (rows .entry)) (now (rows .exit)) c n r (now (table .entry)) modes node (frontOf front) ⌝ }
+    ensures { λ r. ⌜ ReadsWire (now (m .entry)) (now (work .entry)) (now (work .exit)) (now (rows .entry)) (now (rows .exit)) c n r (now (table .entry)) modes node top (frontOf front) ⌝ }
 {
     let kind = nodes::kind_at(table, node);
     if kind == nodes::BOOLEAN {
-        return read_leaf::boolean(m, rows, front, c, n);
+        return read_leaf::boolean(m, rows, top, front, c, n);
     }
     if kind == nodes::RECORD {
-        return record(table, m, rows, work, modes, node, front, c, n, left);
+        return record(table, m, rows, work, modes, node, top, front, c, n, left);
     }
     if kind == nodes::ARRAY {
-        return array(table, m, rows, work, modes, node, front, c, n, left);
+        return array(table, m, rows, work, modes, node, top, front, c, n, left);
     }
-    block(table, m, rows, work, modes, node, front, c, n)
+    block(table, m, rows, work, modes, node, top, front, c, n)
 }
 
 // Its row, and then its fields.
@@ -127,20 +131,21 @@ fn record(
     work: &mut [u32],
     modes: u64,
     node: usize,
+    top: usize,
     front: Front,
     c: Cursor,
     n: usize,
     left: usize,
-) -> Step
+) -> Progress
     requires { ⌜ Ready (now m) (now work) × Inside (now m) c × Sized (now table) × FitsWire (now table) (now work) left node × (nodeAt (now table) node .kind ≡ RECORD) ⌝ }
-    ensures { λ r. ⌜ ReadsWire (now (m .entry)) (now (work .entry)) (now (work .exit)) (now (rows .entry)) (now (rows .exit)) c n r (now (table .entry)) modes node (frontOf front) ⌝ }
+    ensures { λ r. ⌜ ReadsWire (now (m .entry)) (now (work .entry)) (now (work .exit)) (now (rows .entry)) (now (rows .exit)) c n r (now (table .entry)) modes node top (frontOf front) ⌝ }
 {
-    let p = parent::make_row(table, m, rows, node, false, front, c, n);
+    let p = parent::make_row(table, m, rows, node, top, false, front, c, n);
     let Parent::Made(count, core, next) = p else {
-        return Step::Refused(parent::refusal(p));
+        return Progress::Refused(parent::refusal(p));
     };
     if count == 0 {
-        return Step::Done(core, next);
+        return Progress::Done(core, next);
     }
     values(
         table,
@@ -165,17 +170,18 @@ fn array(
     work: &mut [u32],
     modes: u64,
     node: usize,
+    top: usize,
     front: Front,
     c: Cursor,
     n: usize,
     left: usize,
-) -> Step
+) -> Progress
     requires { ⌜ Ready (now m) (now work) × Inside (now m) c × Sized (now table) × FitsWire (now table) (now work) left node × (nodeAt (now table) node .kind ≡ ARRAY) ⌝ }
-    ensures { λ r. ⌜ ReadsWire (now (m .entry)) (now (work .entry)) (now (work .exit)) (now (rows .entry)) (now (rows .exit)) c n r (now (table .entry)) modes node (frontOf front) ⌝ }
+    ensures { λ r. ⌜ ReadsWire (now (m .entry)) (now (work .entry)) (now (work .exit)) (now (rows .entry)) (now (rows .exit)) c n r (now (table .entry)) modes node top (frontOf front) ⌝ }
 {
-    let p = parent::make_row(table, m, rows, node, true, front, c, n);
+    let p = parent::make_row(table, m, rows, node, top, true, front, c, n);
     let Parent::Made(count, core, next) = p else {
-        return Step::Refused(parent::refusal(p));
+        return Progress::Refused(parent::refusal(p));
     };
     values(
         table,
@@ -206,7 +212,7 @@ fn values(
     n: usize,
     left: usize,
     count: usize,
-) -> Step
+) -> Progress
     requires { ⌜ Ready (now m) (now work) × Inside (now m) c × Sized (now table) × FitRun (now table) (now work) left node repeated count ⌝ }
     ensures { λ r. ⌜ ReadsValues (now (m .entry)) (now (work .entry)) (now (work .exit)) (now (rows .entry)) (now (rows .exit)) c n r (now (table .entry)) modes node repeated count ⌝ }
 {
@@ -220,18 +226,18 @@ fn values(
         let start = core;
         let d = descent::descend(table, m, rows, at, omittable, start, i, left);
         let Descent::To(inner, absent, from, next, path) = d else {
-            return Step::Refused(descent::refusal(d));
+            return Progress::Refused(descent::refusal(d));
         };
         let r = value(table, m, rows, work, modes, inner, absent, from, next, path);
-        let Step::Done(after, written) = r else {
-            return Step::Refused(refusal(r));
+        let Progress::Done(after, written) = r else {
+            return Progress::Refused(refusal(r));
         };
         at = end;
         core = after;
         i = written;
         k -= 1;
     }
-    Step::Done(core, i)
+    Progress::Done(core, i)
 }
 
 // The whole tree: the value at the table's root, from the first row on.
@@ -242,7 +248,7 @@ pub fn root(
     work: &mut [u32],
     modes: u64,
     c: Cursor,
-) -> Step
+) -> Progress
     requires { ⌜ Ready (now m) (now work) × Inside (now m) c × Sized (now table) × FitsNode (now table) (now work) 32 0 ⌝ }
     ensures { λ r. ⌜ ReadsValue (now (m .entry)) (now (work .entry)) (now (work .exit)) (now (rows .entry)) (now (rows .exit)) c 0 r (now (table .entry)) modes 0 false ⌝ }
 {

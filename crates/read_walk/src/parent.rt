@@ -68,12 +68,19 @@ fn row_kind(repeated: bool) -> u64
     kind::RECORD
 }
 
-// The row of one that holds so many values.
-pub fn push_row(rows: &mut [u64], n: usize, repeated: bool, count: usize, c: Cursor) -> Parent
+// The row of one that holds so many values, under its topmost node.
+pub fn push_row(
+    rows: &mut [u64],
+    n: usize,
+    repeated: bool,
+    count: usize,
+    top: usize,
+    c: Cursor,
+) -> Parent
     ensures { λ r. ⌜ r ≡ parentBy (putOf (mostRows (length (now (rows .entry)))) n) count c ⌝ }
-    ensures { λ r. ⌜ now (rows .exit) ≡ putIn (mostRows (length (now (rows .entry)))) (now (rows .entry)) n (parentRow repeated ∷ count ∷ 0 ∷ []) ⌝ }
+    ensures { λ r. ⌜ now (rows .exit) ≡ putIn (mostRows (length (now (rows .entry)))) (now (rows .entry)) n (parentRow repeated ∷ count ∷ 0 ∷ top ∷ []) ⌝ }
 {
-    let Put::Next(next) = push::push(rows, n, row_kind(repeated), count as u64, 0) else {
+    let Put::Next(next) = push::push(rows, n, row_kind(repeated), count as u64, 0, top) else {
         return Parent::Refused(31);
     };
     Parent::Made(count, c, next)
@@ -85,19 +92,20 @@ pub fn make_row(
     m: &[u8],
     rows: &mut [u64],
     node: usize,
+    top: usize,
     repeated: bool,
     front: Front,
     c: Cursor,
     n: usize,
 ) -> Parent
     requires { ⌜ Inside (now m) c × (11 + 4 * node ≤ length (now table)) × (nodeAt (now table) node .kind ≡ parentKind repeated) ⌝ }
-    ensures { λ r. ⌜ MakesRow (now (table .entry)) (now (m .entry)) (now (rows .entry)) (now (rows .exit)) node repeated (frontOf front) c n r ⌝ }
+    ensures { λ r. ⌜ MakesRow (now (table .entry)) (now (m .entry)) (now (rows .entry)) (now (rows .exit)) node top repeated (frontOf front) c n r ⌝ }
 {
     let counted = count_of(table, m, node, repeated, front, c);
     let Count::Of(values, core) = counted else {
         return Parent::Refused(count_refusal(counted));
     };
-    push_row(rows, n, repeated, values, core)
+    push_row(rows, n, repeated, values, top, core)
 }
 
 // The number of the refusal, 0 if it is none.

@@ -17,8 +17,8 @@ use Rattle.modes.specs.declared.Header as header
 use Rattle.modes.specs.Header.{headerOf}
 use Rattle.read_pieces.specs.Pieces.{Inside}
 use Rattle.store.specs.Same.{Same}
-use Rattle.read_leaf.specs.declared.Step.{Step}
-use Rattle.read_leaf.specs.declared.Step.the-variants.{Done, Refused}
+use Rattle.read_leaf.specs.declared.Progress.{Progress}
+use Rattle.read_leaf.specs.declared.Progress.the-variants.{Done, Refused}
 use Rattle.read_leaf.specs.State.{mostRows, Ready, cursorOf, stateOf, Does}
 use Rattle.read_leaf.specs.Does.{done-ready, done-inside}
 use Rattle.wire_types.specs.Typed.{Sized, heldIn, FitsNode, Kept}
@@ -39,7 +39,7 @@ record Ended (m : List ℕ) (most : ℕ) (w l l′ : List ℕ) (a : Answer (List
   stored : l′ ≡ sets l 0 (words rows)
   room : length rows ≤ most
 
-module _ {m : List ℕ} {most : ℕ} {w w′ l l′ : List ℕ} {r : Step} where
+module _ {m : List ℕ} {most : ℕ} {w w′ l l′ : List ℕ} {r : Progress} where
   does-refused : {e : ℕ} (a : Answer (List (Row Place) × State (inMessage m))) → Does m most w w′ 0 l l′ r a → r ≡ Refused e → a ≡ refuse e 0
   does-refused (ok x) d q = absurd (let z : _≡_ {A = ℕ} 0 1 = cc (d .answer) in omega arith)
   does-refused {e} (refuse k i) d q = let z : k ≡ e = cc (d .answer) in rw (z, d .left .0) refl
@@ -126,7 +126,7 @@ module _ (table m w l : List ℕ) (k : Kept table w) where
             from-root = from-start ∙ rw (sym (x .is most) ∙ ap (begunOf m most w₁) q₃)
                 (ap (λ held. walk (inMessage m) modes held (k .schema .root) (stateOf m most w₁ core 0) >>= finish) (kept-held k))
 
-            module _ {w₂ l₂ : List ℕ} (r : Step) (v : ReadsValue m w₁ w₂ l l₂ core 0 r table modes 0 false) (n₂ : length w₂ ≡ length w₁) where
+            module _ {w₂ l₂ : List ℕ} (r : Progress) (v : ReadsValue m w₁ w₂ l l₂ core 0 r table modes 0 false) (n₂ : length w₂ ≡ length w₁) where
               root-does : Does m most w₁ w₂ 0 l l₂ r (valueAt m modes (heldIn table) false (k .schema .root) (stateOf m most w₁ core 0))
               root-does = v .does (k .schema .root) (node-kept table w w₁ 0 (k .schema .root) (kept-sized k) (begun-in .2 .at) (kept-root k))
 

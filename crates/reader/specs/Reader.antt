@@ -17,8 +17,8 @@ use Rattle.read_pieces.specs.Pieces.{Inside}
 use Rattle.store.specs.Same.{Same}
 use Rattle.read_literals.specs.Words.{storeOf}
 use Rattle.wire_types.specs.Typed.{Kept}
-use Rattle.read_leaf.specs.declared.Step.{Step}
-use Rattle.read_leaf.specs.declared.Step.the-variants.{Done, Refused}
+use Rattle.read_leaf.specs.declared.Progress.{Progress}
+use Rattle.read_leaf.specs.declared.Progress.the-variants.{Done, Refused}
 use Rattle.read_leaf.specs.State.{Ready, stateOf}
 use Rattle.reader.specs.declared.Begun.{Begun}
 use Rattle.reader.specs.declared.Begun.the-variants.{Core, Bad}
@@ -34,16 +34,16 @@ rowsOf table m lent = do
   readChecked schema m lent
 
 -- The rows stand in the buffer; after a refusal nothing is said of it. In either case the work is right for another message.
-abbrev pub Gives : List ℕ → List ℕ → List ℕ → List ℕ → Step → Answer (List (Row Place)) → Type 0
+abbrev pub Gives : List ℕ → List ℕ → List ℕ → List ℕ → Progress → Answer (List (Row Place)) → Type 0
 Gives table before now work (Done c n) a = (rs : List (Row Place)) × (a ≡ ok rs) × (n ≡ length rs) × (now ≡ sets before 0 (words rs)) × (rowWidth * length rs ≤ length before) × Kept table work
 Gives table before now work (Refused e) a = (a ≡ refuse e 0) × Kept table work
 
 -- how many words of the buffer are the answer's then, and the two numbers
-abbrev pub usedBy : Step → ℕ
+abbrev pub usedBy : Progress → ℕ
 usedBy (Done c n) = rowWidth * n
 usedBy (Refused e) = 0
 
-abbrev pub Answers : Step → code.Answer → Type 0
+abbrev pub Answers : Progress → code.Answer → Type 0
 Answers (Done c n) r = (r .number ≡ 0) × (r .second ≡ n)
 Answers (Refused e) r = (r .number ≡ e) × (r .second ≡ 0)
 

@@ -14,7 +14,7 @@ use format::MOST_BYTES;
 use format::ROW_WIDTH;
 use label::Cursor;
 use modes::Header;
-use read_leaf::Step;
+use read_leaf::Progress;
 use read_pieces::Parts;
 use table::Answer;
 
@@ -54,46 +54,46 @@ fn begin(m: &[u8], work: &mut [u32], modes: u64) -> Begun
 }
 
 // 20 to 22, the walk, and then 30: the rows from the first on, and how many there are.
-fn rows_of(table: &[u8], m: &[u8], rows: &mut [u64], work: &mut [u32]) -> Step
+fn rows_of(table: &[u8], m: &[u8], rows: &mut [u64], work: &mut [u32]) -> Progress
     requires { ⌜ Kept (now table) (now work) ⌝ }
     ensures { λ r. ⌜ Gives (now (table .entry)) (now (rows .entry)) (now (rows .exit)) (now (work .exit)) r (rowsOf (now (table .entry)) (now (m .entry)) (length (now (rows .entry)))) ⌝ }
 {
     if !is_sized(m) {
-        return Step::Refused(20);
+        return Progress::Refused(20);
     }
     let Header::Modes(modes) = modes::read_header(m[0]) else {
-        return Step::Refused(21);
+        return Progress::Refused(21);
     };
     let Begun::Core(core) = begin(m, work, modes) else {
-        return Step::Refused(22);
+        return Progress::Refused(22);
     };
     let r = read_walk::root(table, m, rows, work, modes, core);
-    let Step::Done(end, _) = r else {
+    let Progress::Done(end, _) = r else {
         return r;
     };
     if !done::is_done(work, end) {
-        return Step::Refused(30);
+        return Progress::Refused(30);
     }
     r
 }
 
 // How many words of the rows are the answer's: none after a refusal.
-fn used_words(r: Step) -> usize
+fn used_words(r: Progress) -> usize
     requires { ⌜ usedBy r < 2 ^ 64 ⌝ }
     ensures { λ used. ⌜ used ≡ usedBy r ⌝ }
 {
     match r {
-        Step::Refused(_) => 0,
-        Step::Done(_, count) => ROW_WIDTH * count,
+        Progress::Refused(_) => 0,
+        Progress::Done(_, count) => ROW_WIDTH * count,
     }
 }
 
-fn answer_of(r: Step) -> Answer
+fn answer_of(r: Progress) -> Answer
     ensures { λ answer. ⌜ Answers r answer ⌝ }
 {
     match r {
-        Step::Refused(number) => Answer { number, second: 0 },
-        Step::Done(_, count) => Answer {
+        Progress::Refused(number) => Answer { number, second: 0 },
+        Progress::Done(_, count) => Answer {
             number: 0,
             second: count as u64,
         },

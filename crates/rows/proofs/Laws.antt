@@ -6,12 +6,13 @@ use mathlib.Core.Option.{Option, none, some}
 use Prim.Native.Nat.{ℕ, _+_, _*_, _≤_, _<_}
 use native.Mathlib.Omega.{arith}
 use lib.Dec.{ltb, leb, eqb}
-use lib.ListN.{getD}
-use borrow.Author.Tests.{lt-ltb, le-ltb, le-leb, lt-leb, leb-true}
-use Rattle.format.specs.Answer.{ok, refuse, _>>=_, _>>_, needAt, orRefuse}
-use Rattle.format.specs.Row.{Row, bare, placed, Place, trueRow, stringRow, fixedRow, arrayRow, isPlace, isInside, fromWords, rowWidth, rowCount, rowAt, look}
-use Rattle.laws.specs.Facts.{need-ok}
-use Rattle.rows.specs.Seen.{inside, lookAtWords, isSome}
+use lib.ListN.{getD, List·getD-eq-default}
+use borrow.Author.Tests.{lt-ltb, le-ltb, le-leb, lt-leb, leb-true, eq-eqb, ne-eqb}
+use Rattle.format.specs.Answer.{Answer, ok, refuse, _>>=_, _>>_, needAt, orRefuse}
+use Rattle.format.specs.Row.{Says, bare, placed, Row, row, Place, trueRow, stringRow, fixedRow, arrayRow, isPlace, isInside, fromWords, rowWidth, rowCount, rowNode, under, rowAt, found, look}
+use Rattle.laws.specs.Facts.{by-lt, need-ok}
+use Rattle.rows.specs.declared.Seen.{Seen}
+use Rattle.rows.specs.Seen.{seen, seenUnder, foundUnder, inside, lookAtWords, isSome}
 
 -- what is there on a test
 pub some-if : {A : Type 0} (t : Bool) (a : A) → isSome (cond t (some a) none) ≡ t
@@ -82,25 +83,116 @@ module _ (count kind : ℕ) (p : Place) where
   unfolding inside _>>_ needAt isInside
   is-outside h = simp (lt-leb (p .start + p .size) count h)
 
--- looking at a row of a list of words
+-- what is said, under a node
+abbrev pub underNode : ℕ → Answer (Says Place) → Answer (Row Place)
+underNode n x = x >>= (λ y. ok (row n y))
+
+found-words : (n count : ℕ) (o : Option (Says Place)) → (orRefuse (under n o) 51 0 >>= (λ r. needAt (isInside count (r .says)) 51 0 >> ok r)) ≡ underNode n (orRefuse o 51 0 >>= inside count)
+unfolding under orRefuse inside needAt _>>_ _>>=_
+found-words n count none = refl
+found-words n count (some x) = go (isInside count x)
+  where
+    go : (t : Bool) → (needAt t 51 0 >> ok (row n x)) ≡ underNode n (needAt t 51 0 >> ok x)
+    go true = refl
+    go false = refl
+
+-- the test of looking
+small-node : (n : ℕ) → n < 1024 → (x : Answer (Says Place)) → (underNode n x >>= (λ r. needAt (ltb (r .node) 1024) 51 0 >> ok r)) ≡ underNode n x
+unfolding needAt _>>_ _>>=_
+small-node n h (ok x) = rw (lt-ltb n 1024 h) refl
+small-node n h (refuse e j) = refl
+
+large-node : (n count : ℕ) → 1024 ≤ n → (o : Option (Says Place)) → (underNode n (orRefuse o 51 0 >>= inside count) >>= (λ r. needAt (ltb (r .node) 1024) 51 0 >> ok r)) ≡ refuse 51 0
+unfolding orRefuse inside needAt _>>_ _>>=_
+large-node n count h none = refl
+large-node n count h (some x) = go (isInside count x)
+  where
+    go : (t : Bool) → (underNode n (needAt t 51 0 >> ok x) >>= (λ r. needAt (ltb (r .node) 1024) 51 0 >> ok r)) ≡ refuse 51 0
+    go true = rw (le-ltb n 1024 h) refl
+    go false = refl
+
+-- a row of a list of words
+pub node-beyond : (ws : List ℕ) (i : ℕ) → rowCount ws ≤ i → rowNode ws i ≡ 0
+node-beyond ws i h = List·getD-eq-default ws 0 (omega arith)
+
 module _ (ws : List ℕ) (count i : ℕ) where
-  pub look-beyond : rowCount ws ≤ i → look ws count i ≡ refuse 50 0
-  unfolding look _>>_ needAt
-  look-beyond h = simp (le-ltb i (rowCount ws) h)
+  abbrev pub wordsLooked : Answer (Says Place)
+  wordsLooked = lookAtWords (getD ws (rowWidth * i) 0) (getD ws (rowWidth * i + 1) 0) (getD ws (rowWidth * i + 2) 0) count
 
-  pub look-row : i < rowCount ws → look ws count i ≡ lookAtWords (getD ws (rowWidth * i) 0) (getD ws (rowWidth * i + 1) 0) (getD ws (rowWidth * i + 2) 0) count
-  unfolding look rowAt _>>_ needAt lookAtWords inside
-  look-row h = simp (lt-ltb i (rowCount ws) h)
+  pub found-beyond : rowCount ws ≤ i → found ws count i ≡ refuse 50 0
+  unfolding found _>>_ needAt
+  found-beyond h = simp (le-ltb i (rowCount ws) h)
 
-row-passed : (count : ℕ) (o : Option (Row Place)) {r : Row Place} → (orRefuse o 51 0 >>= inside count) ≡ ok r → isInside count r ≡ true
+  pub found-row : i < rowCount ws → found ws count i ≡ underNode (rowNode ws i) wordsLooked
+  unfolding found rowAt _>>_ needAt lookAtWords
+  found-row h = rw (lt-ltb i (rowCount ws) h) (found-words (rowNode ws i) count _)
+
+  -- a node below 1,024 does not matter to looking, another is refused
+  pub look-small : rowNode ws i < 1024 → look ws count i ≡ found ws count i
+  unfolding look _>>=_
+  look-small s = by-lt i (rowCount ws)
+      (λ h. rw (found-row h) (small-node (rowNode ws i) s wordsLooked))
+      (λ h. rw (found-beyond h) (small-node (rowNode ws i) s (refuse 50 0)))
+
+  pub look-large : 1024 ≤ rowNode ws i → look ws count i ≡ refuse 51 0
+  unfolding look lookAtWords
+  look-large l = by-lt i (rowCount ws)
+      (λ h. rw (found-row h) (large-node (rowNode ws i) count l _))
+      (λ h. absurd (omega (arith, node-beyond ws i h)))
+
+  -- a row under the wanted node
+  module _ (node : ℕ) where
+    pub under-other : (rowNode ws i ≡ node → ⊥) → foundUnder node ws count i ≡ refuse 51 0
+    unfolding foundUnder _>>_ needAt
+    under-other z = rw (ne-eqb (rowNode ws i) node z) refl
+
+    pub under-beyond : rowCount ws ≤ i → (e : ℕ) × (foundUnder node ws count i ≡ refuse e 0)
+    unfolding foundUnder _>>_ needAt _>>=_
+    under-beyond h = go (eqb (rowNode ws i) node)
+      where
+        go : (t : Bool) → (e : ℕ) × ((needAt t 51 0 >> (found ws count i >>= (λ r. ok (r .says)))) ≡ refuse e 0)
+        go true = (50, rw (found-beyond h) refl)
+        go false = (51, refl)
+
+    pub under-row : i < rowCount ws → rowNode ws i ≡ node → foundUnder node ws count i ≡ wordsLooked
+    unfolding foundUnder _>>_ needAt _>>=_
+    under-row h e = rw (eq-eqb (rowNode ws i) node e, found-row h) (go wordsLooked)
+      where
+        go : (x : Answer (Says Place)) → (underNode (rowNode ws i) x >>= (λ r. ok (r .says))) ≡ x
+        go (ok x) = refl
+        go (refuse n j) = refl
+
+    -- whatever was found, if the node is the wanted one
+    pub under-found : (s : Seen) → rowNode ws i ≡ node → seenUnder (rowNode ws i) s ≡ found ws count i → seen s ≡ foundUnder node ws count i
+    unfolding foundUnder seenUnder _>>_ needAt _>>=_
+    under-found s e f = rw (eq-eqb (rowNode ws i) node e, ← f) (go (seen s))
+      where
+        go : (x : Answer (Says Place)) → x ≡ (underNode (rowNode ws i) x >>= (λ r. ok (r .says)))
+        go (ok x) = refl
+        go (refuse n j) = refl
+
+-- what is found is inside the bytes
+words-passed : (count : ℕ) (o : Option (Says Place)) {x : Says Place} → (orRefuse o 51 0 >>= inside count) ≡ ok x → isInside count x ≡ true
 unfolding _>>=_ orRefuse inside
-row-passed count none e = absurd (let z : _≡_ {A = ℕ} 0 1 = cc in omega arith)
-row-passed count (some s) {r} e =
-    let (t, f) = need-ok (isInside count s) 51 0 (ok s) e in
-    let g : s ≡ r = cc in
+words-passed count none e = absurd (let z : _≡_ {A = ℕ} 0 1 = cc in omega arith)
+words-passed count (some y) {x} e =
+    let (t, f) = need-ok (isInside count y) 51 0 (ok y) e in
+    let g : y ≡ x = cc in
     ap (isInside count) (sym g) ∙ t
 
-pub look-inside : (ws : List ℕ) (count i : ℕ) {kind : ℕ} {p : Place} → look ws count i ≡ ok (placed kind p) → p .start + p .size ≤ count
-unfolding look isInside inside
-look-inside ws count i {kind} {p} e =
+pub words-inside : (kind a b count : ℕ) {k : ℕ} {p : Place} → lookAtWords kind a b count ≡ ok (placed k p) → p .start + p .size ≤ count
+unfolding lookAtWords isInside
+words-inside kind a b count {k} {p} e = leb-true (p .start + p .size) count (words-passed count (fromWords kind a b) e)
+
+row-passed : (count : ℕ) (o : Option (Row Place)) {r : Row Place} → (orRefuse o 51 0 >>= (λ q. needAt (isInside count (q .says)) 51 0 >> ok q)) ≡ ok r → isInside count (r .says) ≡ true
+unfolding _>>=_ orRefuse
+row-passed count none e = absurd (let z : _≡_ {A = ℕ} 0 1 = cc in omega arith)
+row-passed count (some q) {r} e =
+    let (t, f) = need-ok (isInside count (q .says)) 51 0 (ok q) e in
+    let g : q ≡ r = cc in
+    ap (λ y. isInside count (y .says)) (sym g) ∙ t
+
+pub found-inside : (ws : List ℕ) (count i : ℕ) {n kind : ℕ} {p : Place} → found ws count i ≡ ok (row n (placed kind p)) → p .start + p .size ≤ count
+unfolding found isInside
+found-inside ws count i {n} {kind} {p} e =
     leb-true (p .start + p .size) count (row-passed count (rowAt ws i) (need-ok (ltb i (rowCount ws)) 50 0 _ e .1))

@@ -13,7 +13,7 @@ returns : tie.Need-returns
 returns c =
     let c5 = c .before .before .before .before .before in
     let a = c5 .args in
-    fixed-24 (now (a .m)) (a .modes) (a .key) (now (a .work)) (a .c) (a .n) (c .before .is-bare .ensures) (a .size) (not-true _ (c .if1 .taken))
+    fixed-24 (now (a .m)) (a .modes) (a .key) (a .node) (now (a .work)) (a .c) (a .n) (c .before .is-bare .ensures) (a .size) (not-true _ (c .if1 .taken))
 
 take-bytes-requires : tie.Need-take-bytes-requires
 take-bytes-requires c κs = search needs
@@ -35,7 +35,7 @@ returns-2 c =
     let c9 = c8 .before in
     let c13 = c9 .before .before .before .before in
     let a = c13 .args in
-    fixed-row (now (a .m)) (a .modes) (a .key) (now (a .work)) (a .c) (a .n) (c9 .is-bare .ensures) (not-false _ (c8 .if1 .left)) (a .size) (c5 .take-bytes .ensures .0)
+    fixed-row (now (a .m)) (a .modes) (a .key) (a .node) (now (a .work)) (a .c) (a .n) (c9 .is-bare .ensures) (not-false _ (c8 .if1 .left)) (a .size) (c5 .take-bytes .ensures .0)
     (c2 .put-part .ensures)
 
 pub fixed-spec : {M : Type 1} → statement M

@@ -16,7 +16,7 @@ returns : tie.Need-returns
 returns c =
     let c5 = c .before .before .before .before .before in
     let a = c5 .args in
-    float-24 (now (a .m)) (a .modes) (a .key) (now (a .work)) (a .c) (a .n) (c .before .is-bare .ensures) (not-true _ (c .if1 .taken))
+    float-24 (now (a .m)) (a .modes) (a .key) (a .node) (now (a .work)) (a .c) (a .n) (c .before .is-bare .ensures) (not-true _ (c .if1 .taken))
 
 take-bytes-requires : tie.Need-take-bytes-requires
 take-bytes-requires c κs = search needs
@@ -40,7 +40,7 @@ returns-2 c =
     let c8 = c7 .before in
     let c12 = c8 .before .before .before .before in
     let a = c12 .args in
-    float-not (now (a .m)) (a .modes) (a .key) (now (a .work)) (a .c) (a .n) (c8 .is-bare .ensures) (not-false _ (c7 .if1 .left)) (c5 .take-bytes .ensures .0) (c .before .enum-told .given .1) (c .refusal .ensures)
+    float-not (now (a .m)) (a .modes) (a .key) (a .node) (now (a .work)) (a .c) (a .n) (c8 .is-bare .ensures) (not-false _ (c7 .if1 .left)) (c5 .take-bytes .ensures .0) (c .before .enum-told .given .1) (c .refusal .ensures)
 
 word-at-requires : tie.Need-word-at-requires
 word-at-requires c κs =
@@ -69,7 +69,7 @@ returns-3 c =
     let c13 = c12 .before in
     let c17 = c13 .before .before .before .before in
     let a = c17 .args in
-    float-row (now (a .m)) (a .modes) (a .key) (now (a .work)) (a .c) (a .n) (c13 .is-bare .ensures) (not-false _ (c12 .if1 .left)) (c10 .take-bytes .ensures .0) (c6 .r .given .1)
+    float-row (now (a .m)) (a .modes) (a .key) (a .node) (now (a .work)) (a .c) (a .n) (c13 .is-bare .ensures) (not-false _ (c12 .if1 .left)) (c10 .take-bytes .ensures .0) (c6 .r .given .1)
     ((subst (λ (p : Part). PartIn (now (a .m)) 8 p) (c6 .r .given .1) (c10 .take-bytes .ensures .1)) .0) (c3 .word-at .ensures) (c2 .row .ensures)
 
 pub float64-spec : {M : Type 1} → statement M

@@ -48,7 +48,7 @@ returns c =
     let c9 = c7 .before .before in
     let c13 = c9 .before .before .before .before in
     let a = c13 .args in
-    text-row (now (a .m)) (a .modes) (a .key) (heldOf (a .leaf) (a .dedup)) (frontOf (a .front)) (now (a .work)) (a .c) (a .n) (c7 .text .ensures) (a .leaf) (c9 .match .keys1) (c3 .text-kind .ensures)
+    text-row (now (a .m)) (a .modes) (a .key) (heldOf (a .leaf) (a .dedup)) (a .node) (frontOf (a .front)) (now (a .work)) (a .c) (a .n) (c7 .text .ensures) (a .leaf) (c9 .match .keys1) (c3 .text-kind .ensures)
     (c2 .put-part .ensures)
 
 same-length-3 : tie.Need-same-length-3

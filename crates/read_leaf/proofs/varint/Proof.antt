@@ -17,7 +17,7 @@ returns : tie.Need-returns
 returns c =
     let c5 = c .before .before .before .before .before in
     let a = c5 .args in
-    varint-24 (now (a .m)) (a .modes) (a .key) (now (a .work)) (a .c) (a .n) (c .before .is-bare .ensures) (not-true _ (c .if1 .taken))
+    varint-24 (now (a .m)) (a .modes) (a .key) (a .node) (now (a .work)) (a .c) (a .n) (c .before .is-bare .ensures) (not-true _ (c .if1 .taken))
 
 take-number-requires : tie.Need-take-number-requires
 take-number-requires c κs = search needs
@@ -41,7 +41,7 @@ returns-2 c =
     let c8 = c7 .before in
     let c12 = c8 .before .before .before .before in
     let a = c12 .args in
-    varint-not (now (a .m)) (a .modes) (a .key) (now (a .work)) (a .c) (a .n) (c8 .is-bare .ensures) (not-false _ (c7 .if1 .left)) (c5 .take-number .ensures) (c .before .enum-told .given .1) (c .refusal .ensures)
+    varint-not (now (a .m)) (a .modes) (a .key) (a .node) (now (a .work)) (a .c) (a .n) (c8 .is-bare .ensures) (not-false _ (c7 .if1 .left)) (c5 .take-number .ensures) (c .before .enum-told .given .1) (c .refusal .ensures)
 
 word-of-requires : tie.Need-word-of-requires
 word-of-requires c κs = search needs
@@ -66,7 +66,7 @@ returns-3 c =
     let c13 = c12 .before in
     let c17 = c13 .before .before .before .before in
     let a = c17 .args in
-    varint-row (now (a .m)) (a .modes) (a .key) (now (a .work)) (a .c) (a .n) (c13 .is-bare .ensures) (not-false _ (c12 .if1 .left)) (c10 .take-number .ensures) (c6 .r .given .1)
+    varint-row (now (a .m)) (a .modes) (a .key) (a .node) (now (a .work)) (a .c) (a .n) (c13 .is-bare .ensures) (not-false _ (c12 .if1 .left)) (c10 .take-number .ensures) (c6 .r .given .1)
     (c3 .word-of .ensures ∙ ap word (toZ-ofZ w64 _ (record { sfits = c5 .known-told .given .0 .1 }))) (c2 .row .ensures)
 
 pub varint-spec : {M : Type 1} → statement M

@@ -51,10 +51,10 @@ use Rattle.read_walk.proofs.+array+record+value+values+wire.{statement}
 use Rattle.read_walk.proofs.+array+record+value+values+wire.Tie.{close}
 
 abbrev μ-array : Measures 4 array-kinds.ps ℕ
-μ-array κs a = 4 * a .1 .1 .1 .1 .1 .1 .1 .1 .1 .0
+μ-array κs a = 4 * a .1 .1 .1 .1 .1 .1 .1 .1 .1 .1 .0
 
 abbrev μ-record : Measures 4 record-kinds.ps ℕ
-μ-record κs a = 4 * a .1 .1 .1 .1 .1 .1 .1 .1 .1 .0
+μ-record κs a = 4 * a .1 .1 .1 .1 .1 .1 .1 .1 .1 .1 .0
 
 abbrev μ-value : Measures 4 value-kinds.ps ℕ
 μ-value κs a = 4 * a .1 .1 .1 .1 .1 .1 .1 .1 .1 .0 + 2
@@ -63,7 +63,7 @@ abbrev μ-values : Measures 4 values-kinds.ps ℕ
 μ-values κs a = 4 * a .1 .1 .1 .1 .1 .1 .1 .1 .1 .0 + 3
 
 abbrev μ-wire : Measures 4 wire-kinds.ps ℕ
-μ-wire κs a = 4 * a .1 .1 .1 .1 .1 .1 .1 .1 .1 .0 + 1
+μ-wire κs a = 4 * a .1 .1 .1 .1 .1 .1 .1 .1 .1 .1 .0 + 1
 
 abbrev array-at : ℕ → In 4 array-kinds.ps
 array-at t = and 4 array-kinds.ps (is 4 array-kinds.ps μ-array t) array.Pre
@@ -508,7 +508,7 @@ wire-returns t c =
     let c5 = c4 .before in
     let c10 = c5 .before .before .before .before .before in
     let a = c10 .args in
-    boolean-does (now (a .table)) (now (a .m)) (now (a .work)) (now (a .rows)) _ (a .modes) (a .node) (a .n) (a .front) (a .c) _ (sym (c5 .kind-at .ensures) ∙ c4 .if1 .taken) (c10 .pre .1 .0) (c2 .boolean .ensures)
+    boolean-does (now (a .table)) (now (a .m)) (now (a .work)) (now (a .rows)) _ (a .modes) (a .node) (a .top) (a .n) (a .front) (a .c) _ (sym (c5 .kind-at .ensures) ∙ c4 .if1 .taken) (c10 .pre .1 .0) (c2 .boolean .ensures)
 
 wire-record-requires : (t : ℕ) → wire-lts.Need-record-requires (wire-uses t) (wire-at t) wire.Post
 wire-record-requires t c κs =

@@ -38,7 +38,7 @@ returns c =
     let c9 = c8 .before in
     let c14 = c9 .before .before .before .before .before in
     let a = c14 .args in
-    block-does (now (a .table)) (now (a .m)) (now (a .work)) _ (now (a .rows)) _ (a .modes) (a .node) (a .n) (a .front) (a .c) _ _ _ _ (c14 .pre .2) (c9 .argument-at .ensures .0) (c8 .leaf-at .ensures) (c7 .deduplicates .ensures) (c4 .read-leaf .ensures)
+    block-does (now (a .table)) (now (a .m)) (now (a .work)) _ (now (a .rows)) _ (a .modes) (a .node) (a .top) (a .n) (a .front) (a .c) _ _ _ _ (c14 .pre .2) (c9 .argument-at .ensures .0) (c8 .leaf-at .ensures) (c7 .deduplicates .ensures) (c4 .read-leaf .ensures)
 
 pub block-spec : {M : Type 1} → statement M
 block-spec =

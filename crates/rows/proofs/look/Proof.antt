@@ -1,63 +1,31 @@
--- `rows::look` meets its contract: past the test on the row's number it looks at that row's words. Assumes nothing.
+-- `rows::look` meets its contract: what is found, unless the node is too large. Assumes nothing.
 use mathlib.Core.Path.{sym, _∙_}
+use native.Mathlib.Omega.{arith}
+use lib.ListN.{length}
+use denote.Ref.{now}
 use borrow.Author.Needs.{needs}
-use Rattle.rows.specs.Seen.{seen, rightCase}
-use Rattle.rows.proofs.Laws.{look-beyond, look-row}
+use Rattle.format.specs.Answer.{_>>=_}
+use Rattle.rows.specs.Seen.{seen, seenUnder, rightCase}
+use Rattle.rows.proofs.Laws.{look-small, look-large}
 use Rattle.rows.proofs.look.Statement.{statement}
 use Rattle.rows.proofs.look.Tie as tie
 
+node-at-requires : tie.Need-node-at-requires
+node-at-requires c κs = search needs
+
 returns : tie.Need-returns
-unfolding seen rightCase
-returns c = (sym (look-beyond _ _ _ (c .if1 .taken)), tt)
+unfolding seen seenUnder rightCase _>>=_
+returns c =
+    let a = c .before .before .before .before .args in
+    (sym (look-large (now (a .rows)) (length (now (a .bytes))) (a .i) (omega (arith, c .before .node-at .ensures, c .if1 .taken))), tt)
 
-mul-at : tie.Need-mul-at
-mul-at c = search needs
-
-mul-look-at-words : tie.Need-mul-look-at-words
-mul-look-at-words c = search needs
-
-shared-slice-read-look-at-words : tie.Need-shared-slice-read-look-at-words
-shared-slice-read-look-at-words c = search needs
-
-add-look-at-words : tie.Need-add-look-at-words
-add-look-at-words c = search needs
-
-mul-look-at-words-2 : tie.Need-mul-look-at-words-2
-mul-look-at-words-2 c = search needs
-
-shared-slice-read-look-at-words-2 : tie.Need-shared-slice-read-look-at-words-2
-shared-slice-read-look-at-words-2 c = search needs
-
-add-look-at-words-2 : tie.Need-add-look-at-words-2
-add-look-at-words-2 c = search needs
-
-mul-look-at-words-3 : tie.Need-mul-look-at-words-3
-mul-look-at-words-3 c = search needs
-
-shared-slice-read-look-at-words-3 : tie.Need-shared-slice-read-look-at-words-3
-shared-slice-read-look-at-words-3 c = search needs
-
-look-at-words-requires : tie.Need-look-at-words-requires
-look-at-words-requires c κs = search needs
+found-requires : tie.Need-found-requires
+found-requires c κs = search needs
 
 returns-2 : tie.Need-returns-2
 returns-2 c =
-    let h = c .before .before .before .before .if1 .left in
-    (c .look-at-words .ensures .0 ∙ sym (look-row _ _ _ h), c .look-at-words .ensures .1)
+    let a = c .before .before .before .before .before .args in
+    (c .found .ensures .0 ∙ sym (look-small (now (a .rows)) (length (now (a .bytes))) (a .i) (omega (arith, c .before .before .node-at .ensures, c .before .if1 .left))), c .found .ensures .1)
 
 pub look-spec : {M : Type 1} → statement M
-look-spec =
-    tie.close
-    (tie.spec
-    returns
-    mul-at
-    mul-look-at-words
-    shared-slice-read-look-at-words
-    add-look-at-words
-    mul-look-at-words-2
-    shared-slice-read-look-at-words-2
-    add-look-at-words-2
-    mul-look-at-words-3
-    shared-slice-read-look-at-words-3
-    look-at-words-requires
-    returns-2)
+look-spec = tie.close (tie.spec node-at-requires returns found-requires returns-2)

@@ -1,4 +1,4 @@
--- `rows::put_row` meets its contract: the three stores are the row's words in order. Assumes nothing.
+-- `rows::put_row` meets its contract: the four stores are the row's words in order. Assumes nothing.
 use mathlib.Core.Path.{_≡_}
 use Prim.Native.Nat.{suc, _+_, _*_}
 use native.Mathlib.Omega.{arith}
@@ -35,6 +35,15 @@ mul-rows-3 c = search needs
 slice-write-rows-3 : tie.Need-slice-write-rows-3
 slice-write-rows-3 c = simp length-set (omega arith)
 
+add-rows-3 : tie.Need-add-rows-3
+add-rows-3 c = search needs
+
+mul-rows-4 : tie.Need-mul-rows-4
+mul-rows-4 c = search needs
+
+slice-write-rows-4 : tie.Need-slice-write-rows-4
+slice-write-rows-4 c = simp length-set (omega arith)
+
 same-length : tie.Need-same-length
 same-length c = search needs
 
@@ -43,7 +52,8 @@ returns c =
     let at = rowWidth * c .args .n in
     let one : at + 1 ≡ suc at = omega arith in
     let two : at + 2 ≡ suc (suc at) = omega arith in
-    simp (one, two)
+    let three : at + 3 ≡ suc (suc (suc at)) = omega arith in
+    simp (one, two, three)
 
 pub put-row-spec : {M : Type 1} → statement M
 put-row-spec =
@@ -58,5 +68,8 @@ put-row-spec =
     add-rows-2
     mul-rows-3
     slice-write-rows-3
+    add-rows-3
+    mul-rows-4
+    slice-write-rows-4
     same-length
     returns)

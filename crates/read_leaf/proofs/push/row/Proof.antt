@@ -21,7 +21,7 @@ returns c =
     let c4 = c .before .before .before .before in
     let c7 = c4 .before .before .before in
     let a = c7 .args in
-    record { does = λ m w x v g i. row-not (a .c) x (c4 .push .ensures .0) (c .enum-told .given .1) }
+    record { does = λ m w j x v g i. row-not (a .c) j x (c4 .push .ensures .0) (c .enum-told .given .1) }
 
 same-length-2 : tie.Need-same-length-2
 same-length-2 c = search needs
@@ -31,7 +31,7 @@ returns-2 c =
     let c5 = c .before .before .before .before .before in
     let c8 = c5 .before .before .before in
     let a = c8 .args in
-    record { does = λ m w x v g i. row-put (a .c) x g i (c5 .push .ensures .0) (c5 .push .ensures .1) (c .before .next .given .1) v }
+    record { does = λ m w j x v g i. row-put (a .c) j x g i (c5 .push .ensures .0) (c5 .push .ensures .1) (c .before .next .given .1) v }
 
 pub row-spec : {M : Type 1} → statement M
 row-spec =

@@ -38,7 +38,7 @@ returns-2 c =
     let c7 = c5 .before .before in
     let c11 = c7 .before .before .before .before in
     let a = c11 .args in
-    holds-row (now (a .rows)) (a .n) (count-is _ (c7 .count-of .ensures) (c5 .counted .given .1)) (c2 .push-row .ensures .0) (c2 .push-row .ensures .1) (c2 .push-row .kept .0)
+    holds-row (now (a .rows)) (a .n) (a .top) (count-is _ (c7 .count-of .ensures) (c5 .counted .given .1)) (c2 .push-row .ensures .0) (c2 .push-row .ensures .1) (c2 .push-row .kept .0)
 
 pub make-row-spec : {M : Type 1} → statement M
 make-row-spec =

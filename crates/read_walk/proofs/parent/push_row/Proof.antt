@@ -31,7 +31,7 @@ returns c =
     let c5 = c4 .before in
     let c8 = c5 .before .before .before in
     let a = c8 .args in
-    (put-full (mostRows (length (now (a .rows)))) (a .n) (a .count) (a .c) (c4 .push .ensures .0) (c .enum-told .given .1), c4 .push .ensures .1 ∙ ap (λ k. putIn (mostRows (length (now (a .rows)))) (now (a .rows)) (a .n) (k ∷ a .count ∷ 0 ∷ [])) (c5 .row-kind .ensures))
+    (put-full (mostRows (length (now (a .rows)))) (a .n) (a .count) (a .c) (c4 .push .ensures .0) (c .enum-told .given .1), c4 .push .ensures .1 ∙ ap (λ k. putIn (mostRows (length (now (a .rows)))) (now (a .rows)) (a .n) (k ∷ a .count ∷ 0 ∷ a .top ∷ [])) (c5 .row-kind .ensures))
 
 same-length-2 : tie.Need-same-length-2
 same-length-2 c = search needs
@@ -43,7 +43,7 @@ returns-2 c =
     let c6 = c5 .before in
     let c9 = c6 .before .before .before in
     let a = c9 .args in
-    (put-next (mostRows (length (now (a .rows)))) (a .n) (c5 .push .ensures .0) (c1 .next .given .1), c5 .push .ensures .1 ∙ ap (λ k. putIn (mostRows (length (now (a .rows)))) (now (a .rows)) (a .n) (k ∷ a .count ∷ 0 ∷ [])) (c6 .row-kind .ensures))
+    (put-next (mostRows (length (now (a .rows)))) (a .n) (c5 .push .ensures .0) (c1 .next .given .1), c5 .push .ensures .1 ∙ ap (λ k. putIn (mostRows (length (now (a .rows)))) (now (a .rows)) (a .n) (k ∷ a .count ∷ 0 ∷ a .top ∷ [])) (c6 .row-kind .ensures))
 
 pub push-row-spec : {M : Type 1} → statement M
 push-row-spec =
