@@ -39,7 +39,7 @@ fn choose(pool: &[u8], work: &[u32], numbered: bool, key: usize, start: usize, s
     write_search::choose(pool, work, key, start, size)
 }
 
-// KeepsText a literal that takes a number, by two words; after 4,096 of them it notes that there was one too many.
+// Keeps a literal that takes a number, by two words; after 4,096 of them it notes that there was one too many.
 fn keep(work: &mut [u32], numbered: bool, key: usize, first: usize, second: usize)
     requires { ⌜ (Good (now work)) × (key < 32) × (first < 2 ^ 32) × (second < 2 ^ 32) ⌝ }
     ensures { λ _. ⌜ Changes (now (work .entry)) (now (work .exit)) (kept numbered key (record { first = first; second = second })) ⌝ }

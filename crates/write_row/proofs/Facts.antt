@@ -124,9 +124,9 @@ drop-take (suc n) m (x ∷ xs) = rw suc-add (drop-take n m xs)
 pub part-text : (spared : Bool) (pool : List ℕ) (start size : ℕ) {b : Bool} → b ≡ (spared || isText (slice start (start + size) pool)) → (spared || isText (bytesAt pool (record { start = start; size = size }))) ≡ b
 part-text spared pool start size e = sym (e ∙ ap (λ x. spared || isText x) (drop-take start size pool))
 
-place-there : (pool rows : List ℕ) (i kind : ℕ) {p : Place} → placeIn kind (looked pool rows i) ≡ some p → i < rowCount rows
+place-there : (pool rows : List ℕ) (node i kind : ℕ) {p : Place} → placeIn kind (looked pool rows node i) ≡ some p → i < rowCount rows
 unfolding placeIn
-place-there pool rows i kind e = found-there pool rows i (placeIn kind) (λ n j. refl) e
+place-there pool rows node i kind e = found-there pool rows node i (placeIn kind) (λ n j. refl) e
 
 or-of : (a : Bool) {b : Bool} → b ≡ false → (a || b) ≡ true → a ≡ true
 or-of true y z = refl
@@ -137,39 +137,39 @@ abbrev Texts : Pass → Bool → ℕ → List ℕ → List ℕ → List ℕ → 
 Texts how numbered k pool out w out′ w′ core s p =
     EmitsText (how .inline) numbered k pool w w′ out′ s (λ modes held. emitEvent (how .put) modes held (record { front = none; body = text k (bytesAt pool p) }) (planOf pool out w core))
 
-module _ {how : Pass} {pool rows out w out′ w′ : List ℕ} {i core : ℕ} (h : Holds pool rows w i core) (k : ℕ) where
+module _ {how : Pass} {pool rows out w out′ w′ : List ℕ} {i core : ℕ} (h : Holds pool rows w i core) (k node : ℕ) where
   module _ (labelled : Bool) where
-    pub varint-none : valueIn integerRow (looked pool rows i) ≡ none → WritesValue how pool rows out w core out′ w′ (Refused 42 i) (fitLeaf k varint labelled (restOf pool rows i))
-    varint-none e = value-refuses (varint-not pool rows i k labelled e)
+    pub varint-none : valueIn integerRow (looked pool rows node i) ≡ none → WritesValue how pool rows out w core out′ w′ (Refused 42 i) (fitLeaf k varint node labelled (restOf pool rows i))
+    varint-none e = value-refuses (varint-not pool rows node i k labelled e)
 
-    pub varint-some : {n : ℕ} {s : Put} {r : Progress} → valueIn integerRow (looked pool rows i) ≡ some n → n < 2 ^ 64
+    pub varint-some : {n : ℕ} {s : Put} {r : Progress} → valueIn integerRow (looked pool rows node i) ≡ some n → n < 2 ^ 64
         → EmitsEvent (how .put) (how .inline) w w′ out out′ core s (unlabelled labelled (value k (label (integer n)))) → r ≡ rowProgress i s
-        → WritesValue how pool rows out w core out′ w′ r (fitLeaf k varint labelled (restOf pool rows i))
+        → WritesValue how pool rows out w core out′ w′ r (fitLeaf k varint node labelled (restOf pool rows i))
     varint-some {n} e b d q =
         let l = label-most (integer n) in
-        value-writes h (value-there pool rows i integerRow e) (body-size labelled k (label (integer n)) (omega arith)) d q (varint-is pool rows i k labelled e b)
+        value-writes h (value-there pool rows node i integerRow e) (body-size labelled k (label (integer n)) (omega arith)) d q (varint-is pool rows node i k labelled e b)
 
-    pub float-none : valueIn floatRow (looked pool rows i) ≡ none → WritesValue how pool rows out w core out′ w′ (Refused 42 i) (fitLeaf k float64 labelled (restOf pool rows i))
-    float-none e = value-refuses (float-not pool rows i k labelled e)
+    pub float-none : valueIn floatRow (looked pool rows node i) ≡ none → WritesValue how pool rows out w core out′ w′ (Refused 42 i) (fitLeaf k float64 node labelled (restOf pool rows i))
+    float-none e = value-refuses (float-not pool rows node i k labelled e)
 
-    pub float-some : {n : ℕ} {s : Put} {r : Progress} → valueIn floatRow (looked pool rows i) ≡ some n → n < 2 ^ 64
+    pub float-some : {n : ℕ} {s : Put} {r : Progress} → valueIn floatRow (looked pool rows node i) ≡ some n → n < 2 ^ 64
         → EmitsEvent (how .put) (how .inline) w w′ out out′ core s (unlabelled labelled (value k (littleEndianBytes 8 n))) → r ≡ rowProgress i s
-        → WritesValue how pool rows out w core out′ w′ r (fitLeaf k float64 labelled (restOf pool rows i))
+        → WritesValue how pool rows out w core out′ w′ r (fitLeaf k float64 node labelled (restOf pool rows i))
     float-some {n} e b d q =
         let l = little-length 8 n in
-        value-writes h (value-there pool rows i floatRow e) (body-size labelled k (littleEndianBytes 8 n) (omega arith)) d q (float-is pool rows i k labelled e b)
+        value-writes h (value-there pool rows node i floatRow e) (body-size labelled k (littleEndianBytes 8 n) (omega arith)) d q (float-is pool rows node i k labelled e b)
 
     module _ (n : ℕ) where
-      pub fixed-none : placeIn fixedRow (looked pool rows i) ≡ none → WritesValue how pool rows out w core out′ w′ (Refused 42 i) (fitLeaf k (fixed n) labelled (restOf pool rows i))
-      fixed-none e = value-refuses (fixed-not pool rows i k labelled n e)
+      pub fixed-none : placeIn fixedRow (looked pool rows node i) ≡ none → WritesValue how pool rows out w core out′ w′ (Refused 42 i) (fitLeaf k (fixed n) node labelled (restOf pool rows i))
+      fixed-none e = value-refuses (fixed-not pool rows node i k labelled n e)
 
-      module _ {p : Place} (e : placeIn fixedRow (looked pool rows i) ≡ some p) (l : p .start + p .size ≤ length pool) where
-        pub fixed-long : (p .size ≡ n → ⊥) → WritesValue how pool rows out w core out′ w′ (Refused 42 i) (fitLeaf k (fixed n) labelled (restOf pool rows i))
-        fixed-long z = value-refuses (fixed-other pool rows i k labelled n e (λ q. z (sym (part-length pool p l) ∙ q)))
+      module _ {p : Place} (e : placeIn fixedRow (looked pool rows node i) ≡ some p) (l : p .start + p .size ≤ length pool) where
+        pub fixed-long : (p .size ≡ n → ⊥) → WritesValue how pool rows out w core out′ w′ (Refused 42 i) (fitLeaf k (fixed n) node labelled (restOf pool rows i))
+        fixed-long z = value-refuses (fixed-other pool rows node i k labelled n e (λ q. z (sym (part-length pool p l) ∙ q)))
 
         pub fixed-some : {s : Put} {r : Progress} → p .size ≡ n → EmitsEvent (how .put) (how .inline) w w′ out out′ core s (unlabelled labelled (value k (bytesAt pool p))) → r ≡ rowProgress i s
-            → WritesValue how pool rows out w core out′ w′ r (fitLeaf k (fixed n) labelled (restOf pool rows i))
-        fixed-some z d q = value-writes h (place-there pool rows i fixedRow e) (body-size labelled k (bytesAt pool p) (part-short pool p l (h .ready .small))) d q (fixed-is pool rows i k labelled n e (part-length pool p l ∙ z))
+            → WritesValue how pool rows out w core out′ w′ r (fitLeaf k (fixed n) node labelled (restOf pool rows i))
+        fixed-some z d q = value-writes h (place-there pool rows node i fixedRow e) (body-size labelled k (bytesAt pool p) (part-short pool p l (h .ready .small))) d q (fixed-is pool rows node i k labelled n e (part-length pool p l ∙ z))
 
   -- a text
   module _ {numbered : Bool} where
@@ -178,63 +178,63 @@ module _ {how : Pass} {pool rows out w out′ w′ : List ℕ} {i core : ℕ} (h
     text-writes p t l d q e = record { writes = λ modes held z y. along e (row-writes h t (text-size k (bytesAt pool p) (part-short pool p l (h .ready .small))) (d .does modes held z y) q) }
 
     module _ (judged : Bool) where
-      pub text-none : placeIn (textRow judged) (looked pool rows i) ≡ none → WritesText how numbered k pool rows out w core out′ w′ (Refused 42 i) (fitLeaf k (textLeaf judged) false (restOf pool rows i))
-      text-none e = text-refuses (text-not pool rows i k false judged e)
+      pub text-none : placeIn (textRow judged) (looked pool rows node i) ≡ none → WritesText how numbered k pool rows out w core out′ w′ (Refused 42 i) (fitLeaf k (textLeaf judged) node false (restOf pool rows i))
+      text-none e = text-refuses (text-not pool rows node i k false judged e)
 
-      module _ (p : Place) (l : p .start + p .size ≤ length pool) (e : placeIn (textRow judged) (looked pool rows i) ≡ some p) where
-        pub text-28 : (how .put || not judged || isText (bytesAt pool p)) ≡ false → WritesText how numbered k pool rows out w core out′ w′ (Refused 28 i) (fitLeaf k (textLeaf judged) false (restOf pool rows i))
-        text-28 z = text-refuses (text-stray pool rows i k false judged e (or-false (how .put) _ (sym (or-assoc (how .put) (not judged) _) ∙ z) .1))
+      module _ (p : Place) (l : p .start + p .size ≤ length pool) (e : placeIn (textRow judged) (looked pool rows node i) ≡ some p) where
+        pub text-28 : (how .put || not judged || isText (bytesAt pool p)) ≡ false → WritesText how numbered k pool rows out w core out′ w′ (Refused 28 i) (fitLeaf k (textLeaf judged) node false (restOf pool rows i))
+        text-28 z = text-refuses (text-stray pool rows node i k false judged e (or-false (how .put) _ (sym (or-assoc (how .put) (not judged) _) ∙ z) .1))
 
         module _ {s : Put} {r : Progress} (d : Texts how numbered k pool out w out′ w′ core s p) (q : r ≡ rowProgress i s) where
-          text-good : (not judged || isText (bytesAt pool p)) ≡ true → WritesText how numbered k pool rows out w core out′ w′ r (fitLeaf k (textLeaf judged) false (restOf pool rows i))
-          text-good z = text-writes p (place-there pool rows i (textRow judged) e) l d q (text-is pool rows i k false judged e z)
+          text-good : (not judged || isText (bytesAt pool p)) ≡ true → WritesText how numbered k pool rows out w core out′ w′ r (fitLeaf k (textLeaf judged) node false (restOf pool rows i))
+          text-good z = text-writes p (place-there pool rows node i (textRow judged) e) l d q (text-is pool rows node i k false judged e z)
 
           -- where it is no text nothing is said of what is put
-          text-put : how .put ≡ true → (not judged || isText (bytesAt pool p)) ≡ false → WritesText how numbered k pool rows out w core out′ w′ r (fitLeaf k (textLeaf judged) false (restOf pool rows i))
-          text-put y z = record { writes = λ modes held a b. along (text-stray pool rows i k false judged e z) (puts-any 28 i y (text-writes p (place-there pool rows i (textRow judged) e) l d q refl .writes modes held a b)) }
+          text-put : how .put ≡ true → (not judged || isText (bytesAt pool p)) ≡ false → WritesText how numbered k pool rows out w core out′ w′ r (fitLeaf k (textLeaf judged) node false (restOf pool rows i))
+          text-put y z = record { writes = λ modes held a b. along (text-stray pool rows node i k false judged e z) (puts-any 28 i y (text-writes p (place-there pool rows node i (textRow judged) e) l d q refl .writes modes held a b)) }
 
-          pub text-some : (how .put || not judged || isText (bytesAt pool p)) ≡ true → WritesText how numbered k pool rows out w core out′ w′ r (fitLeaf k (textLeaf judged) false (restOf pool rows i))
+          pub text-some : (how .put || not judged || isText (bytesAt pool p)) ≡ true → WritesText how numbered k pool rows out w core out′ w′ r (fitLeaf k (textLeaf judged) node false (restOf pool rows i))
           text-some z = by-bool (not judged || isText (bytesAt pool p)) text-good (λ y. text-put (or-of (how .put) y (sym (or-assoc (how .put) (not judged) _) ∙ z)) y)
 
 -- ---- a truth, a record, and what stands in front of a value
 
-module _ {put : Bool} {pool rows out out′ : List ℕ} {i core : ℕ} where
-  pub truth-none : truthOf (looked pool rows i) ≡ none → WritesRow put pool rows out out′ i core (Refused 42 i) (fitTruth (restOf pool rows i))
-  truth-none e = row-refuses (truth-not pool rows i e)
+module _ {put : Bool} {pool rows out out′ : List ℕ} {i core : ℕ} (node : ℕ) where
+  pub truth-none : truthOf (looked pool rows node i) ≡ none → WritesRow put pool rows out out′ i core (Refused 42 i) (fitTruth node (restOf pool rows i))
+  truth-none e = row-refuses (truth-not pool rows node i e)
 
-  pub truth-some : {l : ℤ} {r : Progress} → truthOf (looked pool rows i) ≡ some l → Marks put out out′ i core r l → WritesRow put pool rows out out′ i core r (fitTruth (restOf pool rows i))
+  pub truth-some : {l : ℤ} {r : Progress} → truthOf (looked pool rows node i) ≡ some l → Marks put out out′ i core r l → WritesRow put pool rows out out′ i core r (fitTruth node (restOf pool rows i))
   unfolding truthOf
-  truth-some e m = row-marks m (found-there pool rows i truthOf (λ n j. refl) e) (truth-is pool rows i e)
+  truth-some e m = row-marks m (found-there pool rows node i truthOf (λ n j. refl) e) (truth-is pool rows node i e)
 
   module _ (labelled : Bool) (count : ℕ) where
-    pub record-none : valueIn recordRow (looked pool rows i) ≡ none → WritesRow put pool rows out out′ i core (Refused 42 i) (fitRecord count labelled (restOf pool rows i))
-    record-none e = row-refuses (record-not pool rows i count labelled e)
+    pub record-none : valueIn recordRow (looked pool rows node i) ≡ none → WritesRow put pool rows out out′ i core (Refused 42 i) (fitRecord count node labelled (restOf pool rows i))
+    record-none e = row-refuses (record-not pool rows node i count labelled e)
 
-    module _ {n : ℕ} (e : valueIn recordRow (looked pool rows i) ≡ some n) where
-      pub record-wrong : (n ≡ count → ⊥) → WritesRow put pool rows out out′ i core (Refused 42 i) (fitRecord count labelled (restOf pool rows i))
-      record-wrong z = row-refuses (record-other pool rows i count labelled e z)
+    module _ {n : ℕ} (e : valueIn recordRow (looked pool rows node i) ≡ some n) where
+      pub record-wrong : (n ≡ count → ⊥) → WritesRow put pool rows out out′ i core (Refused 42 i) (fitRecord count node labelled (restOf pool rows i))
+      record-wrong z = row-refuses (record-other pool rows node i count labelled e z)
 
-      pub record-plain : n ≡ count → labelled ≡ false → out′ ≡ out → WritesRow put pool rows out out′ i core (Done (i + 1) core) (fitRecord count labelled (restOf pool rows i))
-      record-plain z f o = row-nothing o (value-there pool rows i recordRow e) (record-is pool rows i count labelled e z ∙ rw f)
+      pub record-plain : n ≡ count → labelled ≡ false → out′ ≡ out → WritesRow put pool rows out out′ i core (Done (i + 1) core) (fitRecord count node labelled (restOf pool rows i))
+      record-plain z f o = row-nothing o (value-there pool rows node i recordRow e) (record-is pool rows node i count labelled e z ∙ rw f)
 
-      pub record-front : {r : Progress} → n ≡ count → labelled ≡ true → Marks put out out′ i core r (pos 0) → WritesRow put pool rows out out′ i core r (fitRecord count labelled (restOf pool rows i))
+      pub record-front : {r : Progress} → n ≡ count → labelled ≡ true → Marks put out out′ i core r (pos 0) → WritesRow put pool rows out out′ i core r (fitRecord count node labelled (restOf pool rows i))
       unfolding unlabelled
-      record-front z f m = row-marks m (value-there pool rows i recordRow e) (record-is pool rows i count labelled e z ∙ rw f)
+      record-front z f m = row-marks m (value-there pool rows node i recordRow e) (record-is pool rows node i count labelled e z ∙ rw f)
 
   module _ (omittable nullable : Bool) where
-    pub open-plain : (omittable || nullable) ≡ false → out′ ≡ out → OpensHere put omittable nullable pool rows out out′ i core false
-    open-plain z o = record { still = o; goes = λ held v n. let (a, b) = or-false omittable nullable z in rw a (value-plain held v (restOf pool rows i) (n ∙ b)) }
+    pub open-plain : (omittable || nullable) ≡ false → out′ ≡ out → OpensHere put omittable nullable pool rows out out′ node i core false
+    open-plain z o = record { still = o; goes = λ held v n t. let (a, b) = or-false omittable nullable z in rw (a, ← t) (value-plain held v (restOf pool rows i) (n ∙ b)) }
 
     module _ (z : (omittable || nullable) ≡ true) where
-      pub open-refused : frontOf omittable nullable (looked pool rows i) ≡ none → OpensGone put omittable nullable pool rows out out′ i core (Refused 42 i)
-      open-refused e = record { writes = λ held v n. row-refuses (front-not held pool rows i omittable v (rw n z) (rw n e)) }
+      pub open-refused : frontOf omittable nullable (looked pool rows node i) ≡ none → OpensGone put omittable nullable pool rows out out′ node i core (Refused 42 i)
+      open-refused e = record { writes = λ held v n t. row-refuses (front-not held pool rows i omittable v (rw n z) (rw (n, t) e)) }
 
-      pub open-gone : {l : ℤ} {r : Progress} → frontOf omittable nullable (looked pool rows i) ≡ some (some l) → Marks put out out′ i core r l → OpensGone put omittable nullable pool rows out out′ i core r
+      pub open-gone : {l : ℤ} {r : Progress} → frontOf omittable nullable (looked pool rows node i) ≡ some (some l) → Marks put out out′ i core r l → OpensGone put omittable nullable pool rows out out′ node i core r
       unfolding frontOf
-      open-gone e m = record { writes = λ held v n. row-marks m (found-there pool rows i (frontOf omittable nullable) (λ x j. refl) e) (front-gone held pool rows i omittable v (rw n z) (rw n e)) }
+      open-gone e m = record { writes = λ held v n t. row-marks m (found-there pool rows node i (frontOf omittable nullable) (λ x j. refl) e) (front-gone held pool rows i omittable v (rw n z) (rw (n, t) e)) }
 
-      pub open-here : frontOf omittable nullable (looked pool rows i) ≡ some none → out′ ≡ out → OpensHere put omittable nullable pool rows out out′ i core true
-      open-here e o = record { still = o; goes = λ held v n. front-here held pool rows i omittable v (rw n z) (rw n e) }
+      pub open-here : frontOf omittable nullable (looked pool rows node i) ≡ some none → out′ ≡ out → OpensHere put omittable nullable pool rows out out′ node i core true
+      open-here e o = record { still = o; goes = λ held v n t. rw (← t) (front-here held pool rows i omittable v (rw n z) (rw (n, t) e)) }
 
 -- ---- by what the key holds
 
@@ -246,10 +246,10 @@ not-judged code.the-variants.Float64 h = refl
 not-judged code.the-variants.Bytes h = refl
 not-judged (code.the-variants.Fixed n) h = refl
 
-module _ {how : Pass} {pool rows out w out′ w′ : List ℕ} {core k : ℕ} {r : Progress} {numbered : Bool} (i : ℕ) (labelled : Bool) where
+module _ {how : Pass} {pool rows out w out′ w′ : List ℕ} {core k : ℕ} {r : Progress} {numbered : Bool} (node i : ℕ) (labelled : Bool) where
   -- the tags are those of the code's `String` and `Bytes`
-  pub held-text : {b : Bool} (l : code.Leaf) → OneOf (0 ∷ 3 ∷ []) (tagOf the-type l) → b ≡ isJudged l → WritesText how numbered k pool rows out w core out′ w′ r (fitLeaf k (textLeaf b) false (restOf pool rows i))
-      → WritesText how numbered k pool rows out w core out′ w′ r (fitLeaf k (leafOf l) labelled (restOf pool rows i))
+  pub held-text : {b : Bool} (l : code.Leaf) → OneOf (0 ∷ 3 ∷ []) (tagOf the-type l) → b ≡ isJudged l → WritesText how numbered k pool rows out w core out′ w′ r (fitLeaf k (textLeaf b) node false (restOf pool rows i))
+      → WritesText how numbered k pool rows out w core out′ w′ r (fitLeaf k (leafOf l) node labelled (restOf pool rows i))
   unfolding leafOf fitLeaf
   held-text code.the-variants.String h q d = rw q at d
   held-text code.the-variants.Varint h q d = absurd (miss (0 ∷ 3 ∷ []) 1 tt h)
@@ -257,6 +257,6 @@ module _ {how : Pass} {pool rows out w out′ w′ : List ℕ} {core k : ℕ} {r
   held-text code.the-variants.Bytes h q d = rw q at d
   held-text (code.the-variants.Fixed n) h q d = absurd (miss (0 ∷ 3 ∷ []) 4 tt h)
 
-  pub held-value : {l l₁ : code.Leaf} → l ≡ l₁ → WritesValue how pool rows out w core out′ w′ r (fitLeaf k (leafOf l₁) labelled (restOf pool rows i))
-      → WritesText how numbered k pool rows out w core out′ w′ r (fitLeaf k (leafOf l) labelled (restOf pool rows i))
+  pub held-value : {l l₁ : code.Leaf} → l ≡ l₁ → WritesValue how pool rows out w core out′ w′ r (fitLeaf k (leafOf l₁) node labelled (restOf pool rows i))
+      → WritesText how numbered k pool rows out w core out′ w′ r (fitLeaf k (leafOf l) node labelled (restOf pool rows i))
   held-value q d = rw q (as-text d)

@@ -13,7 +13,7 @@ use types.Run.{OneOf, miss}
 use borrow.Author.Tests.{ne-eqb}
 use Rattle.format.specs.Answer.{Answer}
 use Rattle.format.specs.Label.{word}
-use Rattle.format.specs.Row.{Row, Place, integerRow, floatRow}
+use Rattle.format.specs.Row.{Says, Place, integerRow, floatRow}
 use Rattle.format.specs.Read.{absentLabel, nullLabel}
 use Rattle.format.specs.Write.{isBare, truthIn}
 use Rattle.rows.specs.declared.Seen.{Seen}
@@ -61,8 +61,8 @@ no-truth (Count k n) h r = simp (ne-eqb k 2 (λ e. omega arith), ne-eqb k 3 (λ 
 no-truth (Refused n) h r = refl
 
 -- l is what looking answers, in the format's terms
-module _ {l : Answer (Row Place)} (s : Seen) (e : seen s ≡ l) where
-  by-seen : {A : Type 0} {s₁ : Seen} (f : Answer (Row Place) → A) → s ≡ s₁ → f l ≡ f (seen s₁)
+module _ {l : Answer (Says Place)} (s : Seen) (e : seen s ≡ l) where
+  by-seen : {A : Type 0} {s₁ : Seen} (f : Answer (Says Place) → A) → s ≡ s₁ → f l ≡ f (seen s₁)
   by-seen f q = ap f (sym e) ∙ ap (λ t. f (seen t)) q
 
   module _ (kind : ℕ) where

@@ -5,7 +5,7 @@ use Prim.Native.Nat.{ℕ, _^_, _<_}
 use lib.Dec.{eqb}
 use lib.IntN.{ℤ, pos}
 use Rattle.format.specs.Answer.{Answer, ok, refuse}
-use Rattle.format.specs.Row.{Row, bare, placed, Place, Cell, absentRow, nullRow}
+use Rattle.format.specs.Row.{Says, bare, placed, Place, Text, absentRow, nullRow}
 use Rattle.format.specs.Read.{absentLabel, nullLabel}
 use Rattle.format.specs.Write.{isBare, truthIn}
 use Rattle.write_row.specs.declared.row.Word.{Word}
@@ -17,21 +17,21 @@ use Rattle.write_row.specs.declared.row.Front.{Front}
 use Rattle.write_row.specs.declared.row.Front.the-variants as fronts
 
 -- The word of a row of this kind, its truth's label; `none` too where looking at it is refused.
-unfoldable pub valueIn : ℕ → Answer (Row Place) → Option ℕ
+unfoldable pub valueIn : ℕ → Answer (Says Place) → Option ℕ
 valueIn kind (ok (bare k x)) = cond (eqb k kind) (some x) none
 valueIn kind (ok (placed k p)) = none
 valueIn kind (refuse e j) = none
 
-unfoldable pub truthOf : Answer (Row Place) → Option ℤ
+unfoldable pub truthOf : Answer (Says Place) → Option ℤ
 truthOf (ok (bare k x)) = truthIn (bare k x)
 truthOf (ok (placed k p)) = none
 truthOf (refuse e j) = none
 
 -- The label that is written in the place of a value that is absent or null, where it may be; else the value is here.
-unfoldable pub gone : Bool → Bool → Cell → Option ℤ
+unfoldable pub gone : Bool → Bool → Says Text → Option ℤ
 gone omittable nullable c = cond (omittable && isBare absentRow 0 c) (some absentLabel) (cond (nullable && isBare nullRow 0 c) (some nullLabel) none)
 
-unfoldable pub frontOf : Bool → Bool → Answer (Row Place) → Option (Option ℤ)
+unfoldable pub frontOf : Bool → Bool → Answer (Says Place) → Option (Option ℤ)
 frontOf omittable nullable (ok (bare k x)) = some (gone omittable nullable (bare k x))
 frontOf omittable nullable (ok (placed k p)) = some none
 frontOf omittable nullable (refuse e j) = none

@@ -7,7 +7,7 @@ use native.Mathlib.Omega.{arith}
 use lib.IntN.{ℤ}
 use Rattle.format.specs.Answer.{Answer, ok}
 use Rattle.format.specs.Modes.{inlineEverything}
-use Rattle.format.specs.Table.{Held, Node, wireOf, Leaf, string, varint, float64, bytes, fixed}
+use Rattle.format.specs.Table.{Held, Node, wireOf, topOf, Leaf, string, varint, float64, bytes, fixed}
 use Rattle.format.specs.Row.{rowCount}
 use Rattle.format.specs.Read.{isNumbered}
 use Rattle.format.specs.Write.{Event, Rest, mark, fitWire}
@@ -67,13 +67,13 @@ pub record Marks (put : Bool) (out out′ : List ℕ) (i core : ℕ) (r : Progre
   pub writes : (pool rows : List ℕ) → i < rowCount rows → WritesRow put pool rows out out′ i core r (ok (mark l ∷ [], restOf pool rows (i + 1)))
 
 -- What stands in front of a value: the whole of it has been done; or nothing has, and the value itself is to come.
-module _ (put omittable nullable : Bool) (pool rows out out′ : List ℕ) (i core : ℕ) where
+module _ (put omittable nullable : Bool) (pool rows out out′ : List ℕ) (node i core : ℕ) where
   pub record OpensGone (r : Progress) : Type 0 where
-    pub writes : (held : ℕ → Held) (v : Node) → isNullable v ≡ nullable → WritesRow put pool rows out out′ i core r (fitValue held omittable v (restOf pool rows i))
+    pub writes : (held : ℕ → Held) (v : Node) → isNullable v ≡ nullable → topOf v ≡ node → WritesRow put pool rows out out′ i core r (fitValue held omittable v (restOf pool rows i))
 
   pub record OpensHere (labelled : Bool) : Type 0 where
     pub still : out′ ≡ out
-    pub goes : (held : ℕ → Held) (v : Node) → isNullable v ≡ nullable → fitValue held omittable v (restOf pool rows i) ≡ fitWire held (wireOf v) labelled (restOf pool rows i)
+    pub goes : (held : ℕ → Held) (v : Node) → isNullable v ≡ nullable → topOf v ≡ node → fitValue held omittable v (restOf pool rows i) ≡ fitWire held (wireOf v) node labelled (restOf pool rows i)
 
   abbrev pub Opens : Opening → Type 0
   Opens (Gone r) = OpensGone r

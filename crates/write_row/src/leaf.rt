@@ -1,4 +1,4 @@
-// The row of a value that a BLOCK holds.
+// The row of a value that a BLOCK holds, under the topmost node, which is the BLOCK or a NULLABLE above it.
 ghost use mathlib.Core.Path.{_≡_};
 ghost use mathlib.Core.Bool.{false, _||_};
 ghost use Prim.Native.Nat.{_<_, _≤_};
@@ -62,13 +62,15 @@ fn text(
     numbered: bool,
     judged: bool,
     key: usize,
+    node: usize,
     i: usize,
     core: usize,
 ) -> Progress
     requires { ⌜ (Holds (now pool) (now rows) (now work) i core) × (key < 32) ⌝ }
-    ensures { λ r. ⌜ WritesText how numbered key (now (pool .entry)) (now (rows .entry)) (now (out .entry)) (now (work .entry)) core (now (out .exit)) (now (work .exit)) r (fitLeaf key (textLeaf judged) false (restOf (now (pool .entry)) (now (rows .entry)) i)) ⌝ }
+    ensures { λ r. ⌜ WritesText how numbered key (now (pool .entry)) (now (rows .entry)) (now (out .entry)) (now (work .entry)) core (now (out .exit)) (now (work .exit)) r (fitLeaf key (textLeaf judged) node false (restOf (now (pool .entry)) (now (rows .entry)) i)) ⌝ }
 {
-    let Placed::At(start, size) = rows::place_at(rows, pool, kind_of(judged), i) else {
+    let Placed::At(start, size) = rows::place_under(rows, pool, node as u64, kind_of(judged), i)
+    else {
         return Progress::Refused(42, i as u64);
     };
     if !passes(pool, how.put | !judged, start, start + size) {
@@ -99,13 +101,14 @@ fn varint(
     how: Pass,
     labelled: bool,
     key: usize,
+    node: usize,
     i: usize,
     core: usize,
 ) -> Progress
     requires { ⌜ (Holds (now pool) (now rows) (now work) i core) × (key < 32) ⌝ }
-    ensures { λ r. ⌜ WritesValue how (now (pool .entry)) (now (rows .entry)) (now (out .entry)) (now (work .entry)) core (now (out .exit)) (now (work .exit)) r (fitLeaf key varint labelled (restOf (now (pool .entry)) (now (rows .entry)) i)) ⌝ }
+    ensures { λ r. ⌜ WritesValue how (now (pool .entry)) (now (rows .entry)) (now (out .entry)) (now (work .entry)) core (now (out .exit)) (now (work .exit)) r (fitLeaf key varint node labelled (restOf (now (pool .entry)) (now (rows .entry)) i)) ⌝ }
 {
-    let Word::Is(a) = row::word_at(rows, pool, kind::INTEGER, i) else {
+    let Word::Is(a) = row::word_at(rows, pool, node, kind::INTEGER, i) else {
         return Progress::Refused(42, i as u64);
     };
     next(
@@ -122,13 +125,14 @@ fn float64(
     how: Pass,
     labelled: bool,
     key: usize,
+    node: usize,
     i: usize,
     core: usize,
 ) -> Progress
     requires { ⌜ (Holds (now pool) (now rows) (now work) i core) × (key < 32) ⌝ }
-    ensures { λ r. ⌜ WritesValue how (now (pool .entry)) (now (rows .entry)) (now (out .entry)) (now (work .entry)) core (now (out .exit)) (now (work .exit)) r (fitLeaf key float64 labelled (restOf (now (pool .entry)) (now (rows .entry)) i)) ⌝ }
+    ensures { λ r. ⌜ WritesValue how (now (pool .entry)) (now (rows .entry)) (now (out .entry)) (now (work .entry)) core (now (out .exit)) (now (work .exit)) r (fitLeaf key float64 node labelled (restOf (now (pool .entry)) (now (rows .entry)) i)) ⌝ }
 {
-    let Word::Is(a) = row::word_at(rows, pool, kind::FLOAT, i) else {
+    let Word::Is(a) = row::word_at(rows, pool, node, kind::FLOAT, i) else {
         return Progress::Refused(42, i as u64);
     };
     next(
@@ -146,13 +150,14 @@ fn fixed(
     labelled: bool,
     key: usize,
     n: usize,
+    node: usize,
     i: usize,
     core: usize,
 ) -> Progress
     requires { ⌜ (Holds (now pool) (now rows) (now work) i core) × (key < 32) ⌝ }
-    ensures { λ r. ⌜ WritesValue how (now (pool .entry)) (now (rows .entry)) (now (out .entry)) (now (work .entry)) core (now (out .exit)) (now (work .exit)) r (fitLeaf key (fixed n) labelled (restOf (now (pool .entry)) (now (rows .entry)) i)) ⌝ }
+    ensures { λ r. ⌜ WritesValue how (now (pool .entry)) (now (rows .entry)) (now (out .entry)) (now (work .entry)) core (now (out .exit)) (now (work .exit)) r (fitLeaf key (fixed n) node labelled (restOf (now (pool .entry)) (now (rows .entry)) i)) ⌝ }
 {
-    let Placed::At(start, size) = rows::place_at(rows, pool, kind::FIXED, i) else {
+    let Placed::At(start, size) = rows::place_under(rows, pool, node as u64, kind::FIXED, i) else {
         return Progress::Refused(42, i as u64);
     };
     if size != n {
@@ -186,16 +191,17 @@ pub fn leaf(
     numbered: bool,
     labelled: bool,
     key: usize,
+    node: usize,
     i: usize,
     core: usize,
 ) -> Progress
     requires { ⌜ (Holds (now pool) (now rows) (now work) i core) × (key < 32) ⌝ }
-    ensures { λ r. ⌜ WritesText how numbered key (now (pool .entry)) (now (rows .entry)) (now (out .entry)) (now (work .entry)) core (now (out .exit)) (now (work .exit)) r (fitLeaf key (leafOf leaf) labelled (restOf (now (pool .entry)) (now (rows .entry)) i)) ⌝ }
+    ensures { λ r. ⌜ WritesText how numbered key (now (pool .entry)) (now (rows .entry)) (now (out .entry)) (now (work .entry)) core (now (out .exit)) (now (work .exit)) r (fitLeaf key (leafOf leaf) node labelled (restOf (now (pool .entry)) (now (rows .entry)) i)) ⌝ }
 {
     match leaf {
-        Leaf::Varint => varint(rows, pool, out, work, how, labelled, key, i, core),
-        Leaf::Float64 => float64(rows, pool, out, work, how, labelled, key, i, core),
-        Leaf::Fixed(n) => fixed(rows, pool, out, work, how, labelled, key, n, i, core),
+        Leaf::Varint => varint(rows, pool, out, work, how, labelled, key, node, i, core),
+        Leaf::Float64 => float64(rows, pool, out, work, how, labelled, key, node, i, core),
+        Leaf::Fixed(n) => fixed(rows, pool, out, work, how, labelled, key, n, node, i, core),
         // a STRING or BYTES: one call for both, so that it can be written out here
         _ => text(
             rows,
@@ -206,6 +212,7 @@ pub fn leaf(
             numbered,
             is_judged(leaf),
             key,
+            node,
             i,
             core,
         ),

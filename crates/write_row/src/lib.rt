@@ -61,13 +61,14 @@ pub fn boolean(
     pool: &[u8],
     out: &mut [u8],
     put: bool,
+    node: usize,
     i: usize,
     core: usize,
 ) -> Progress
     requires { ⌜ (i ≤ 8192) × (core < 2 ^ 32) ⌝ }
-    ensures { λ r. ⌜ WritesRow put (now (pool .entry)) (now (rows .entry)) (now (out .entry)) (now (out .exit)) i core r (fitTruth (restOf (now (pool .entry)) (now (rows .entry)) i)) ⌝ }
+    ensures { λ r. ⌜ WritesRow put (now (pool .entry)) (now (rows .entry)) (now (out .entry)) (now (out .exit)) i core r (fitTruth node (restOf (now (pool .entry)) (now (rows .entry)) i)) ⌝ }
 {
-    let Truth::Is(t) = row::truth_at(rows, pool, i) else {
+    let Truth::Is(t) = row::truth_at(rows, pool, node, i) else {
         return Progress::Refused(42, i as u64);
     };
     if t {
@@ -84,13 +85,14 @@ pub fn record(
     put: bool,
     labelled: bool,
     count: usize,
+    node: usize,
     i: usize,
     core: usize,
 ) -> Progress
     requires { ⌜ (i ≤ 8192) × (core < 2 ^ 32) ⌝ }
-    ensures { λ r. ⌜ WritesRow put (now (pool .entry)) (now (rows .entry)) (now (out .entry)) (now (out .exit)) i core r (fitRecord count labelled (restOf (now (pool .entry)) (now (rows .entry)) i)) ⌝ }
+    ensures { λ r. ⌜ WritesRow put (now (pool .entry)) (now (rows .entry)) (now (out .entry)) (now (out .exit)) i core r (fitRecord count node labelled (restOf (now (pool .entry)) (now (rows .entry)) i)) ⌝ }
 {
-    let Word::Is(n) = row::word_at(rows, pool, kind::RECORD, i) else {
+    let Word::Is(n) = row::word_at(rows, pool, node, kind::RECORD, i) else {
         return Progress::Refused(42, i as u64);
     };
     if n != count as u64 {
@@ -102,7 +104,7 @@ pub fn record(
     mark(out, put, i, core, 0)
 }
 
-// What stands in front of a value that may be absent or null.
+// What stands in front of a value that may be absent or null: its row is under `node`, the topmost one.
 pub fn open_value(
     rows: &[u64],
     pool: &[u8],
@@ -110,16 +112,17 @@ pub fn open_value(
     put: bool,
     omittable: bool,
     nullable: bool,
+    node: usize,
     i: usize,
     core: usize,
 ) -> Opening
     requires { ⌜ (i ≤ 8192) × (core < 2 ^ 32) ⌝ }
-    ensures { λ r. ⌜ Opens put omittable nullable (now (pool .entry)) (now (rows .entry)) (now (out .entry)) (now (out .exit)) i core r ⌝ }
+    ensures { λ r. ⌜ Opens put omittable nullable (now (pool .entry)) (now (rows .entry)) (now (out .entry)) (now (out .exit)) node i core r ⌝ }
 {
     if !(omittable | nullable) {
         return Opening::Here(false);
     }
-    let Front::Is(presence) = row::front_at(rows, pool, omittable, nullable, i) else {
+    let Front::Is(presence) = row::front_at(rows, pool, node, omittable, nullable, i) else {
         return Opening::Gone(Progress::Refused(42, i as u64));
     };
     match presence {

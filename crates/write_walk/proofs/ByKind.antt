@@ -21,7 +21,7 @@ use Rattle.laws.specs.Facts.{by-lt}
 use Rattle.theory.specs.Says.{ok-says}
 use Rattle.theory.specs.Sent.{length-shown}
 use Rattle.table.specs.declared.nodes.Leaf as code
-use Rattle.laws.specs.Kinds.{by-boolean, by-array, by-record, by-block}
+use Rattle.laws.specs.Kinds.{top-is, by-boolean, by-array, by-record, by-block}
 use Rattle.table.specs.Held.{leafIn, leaf-held, dedup-held}
 use Rattle.wire_types.specs.Typed.{heldIn, IsNode, IsWire, AreFields, FitsNode, FitsWire, below}
 use Rattle.wire_types.specs.Nodes.{nullable-is, wire-of}
@@ -63,12 +63,12 @@ begins h = (omega (arith, h .inside, h .few), omega (arith, h .within .first, h 
 pub marks-as : {put : Bool} {out out′ : List ℕ} {i core : ℕ} {r : Progress} {l l₁ : ℤ} → l ≡ l₁ → Marks put out out′ i core r l → Marks put out out′ i core r l₁
 marks-as e d = rw (← e) d
 
-module _ {put omittable nullable : Bool} {pool rows out out′ : List ℕ} {i core : ℕ} {x : Opening} (o : Opens put omittable nullable pool rows out out′ i core x) where
-  pub opened-gone : {r : Progress} → x ≡ Gone r → OpensGone put omittable nullable pool rows out out′ i core r
-  opened-gone q = subst (λ y. Opens put omittable nullable pool rows out out′ i core y) q o
+module _ {put omittable nullable : Bool} {pool rows out out′ : List ℕ} {node i core : ℕ} {x : Opening} (o : Opens put omittable nullable pool rows out out′ node i core x) where
+  pub opened-gone : {r : Progress} → x ≡ Gone r → OpensGone put omittable nullable pool rows out out′ node i core r
+  opened-gone q = subst (λ y. Opens put omittable nullable pool rows out out′ node i core y) q o
 
-  pub opened-here : {labelled : Bool} → x ≡ Here labelled → OpensHere put omittable nullable pool rows out out′ i core labelled
-  opened-here q = subst (λ y. Opens put omittable nullable pool rows out out′ i core y) q o
+  pub opened-here : {labelled : Bool} → x ≡ Here labelled → OpensHere put omittable nullable pool rows out out′ node i core labelled
+  opened-here q = subst (λ y. Opens put omittable nullable pool rows out out′ node i core y) q o
 
 -- ---- the types on the way down
 
@@ -87,122 +87,123 @@ module _ (table w : List ℕ) (left node : ℕ) where
 
 module _ (how : Pass) (table pool rows out w : List ℕ) (i core node : ℕ) (holds : Holds pool rows w i core) where
   module _ {omittable nullable : Bool} (z : nullable ≡ eqb (nodeAt table node .kind) NULLABLE) where
-    pub value-gone : {out′ : List ℕ} {r : Progress} → OpensGone (how .put) omittable nullable pool rows out out′ i core r → WritesNode how table pool rows out w core out′ w r i node omittable
-    value-gone o = record { writes = λ modes s v h. o .writes (heldIn table) v (nullable-is table w node v h ∙ sym z) .writes modes (heldIn table) w holds }
+    pub value-gone : {out′ : List ℕ} {r : Progress} → OpensGone (how .put) omittable nullable pool rows out out′ node i core r → WritesNode how table pool rows out w core out′ w r i node omittable
+    value-gone o = record { writes = λ modes s v h. o .writes (heldIn table) v (nullable-is table w node v h ∙ sym z) (top-is _ _ _ _ node v h) .writes modes (heldIn table) w holds }
 
-    pub value-here : {out₁ out′ w′ : List ℕ} {own : ℕ} {labelled : Bool} {r : Progress} → OpensHere (how .put) omittable nullable pool rows out out₁ i core labelled → own ≡ below nullable node
-        → WritesWire how table pool rows out₁ w core out′ w′ r i own labelled → WritesNode how table pool rows out w core out′ w′ r i node omittable
+    pub value-here : {out₁ out′ w′ : List ℕ} {own : ℕ} {labelled : Bool} {r : Progress} → OpensHere (how .put) omittable nullable pool rows out out₁ node i core labelled → own ≡ below nullable node
+        → WritesWire how table pool rows out₁ w core out′ w′ r i own node labelled → WritesNode how table pool rows out w core out′ w′ r i node omittable
     value-here {own = own} o e d = record {
       writes = λ modes s v h.
           let n = nullable-is table w node v h ∙ sym z in
           let u : IsWire table w own (wireOf v) = rw (e ∙ ap (λ b. below b node) (sym n)) (wire-of table w node v h) in
-          along (o .goes (heldIn table) v n) (rw (← o .still) (d .writes modes s (wireOf v) u));
+          along (o .goes (heldIn table) v n (top-is _ _ _ _ node v h)) (rw (← o .still) (d .writes modes s (wireOf v) u));
     }
 
-  -- ---- by the kind of its own node
+  -- ---- by the kind of its own node, where the topmost one is `top`
 
-  pub wire-boolean : {out′ : List ℕ} {r : Progress} {labelled : Bool} → nodeAt table node .kind ≡ BOOLEAN → WritesRow (how .put) pool rows out out′ i core r (fitTruth (restOf pool rows i))
-      → WritesWire how table pool rows out w core out′ w r i node labelled
-  wire-boolean {out′} {r} {labelled} k d = record {
-    writes = λ modes s v h. by-boolean _ _ _ _ (λ u. WritesBy how table pool rows out w core out′ w r i modes (fitWire (heldIn table) u labelled)) node v h k
-        (along (boolean-truth (heldIn table) labelled (restOf pool rows i)) (d .writes modes (heldIn table) w holds));
-  }
+  module _ (top : ℕ) where
+    pub wire-boolean : {out′ : List ℕ} {r : Progress} {labelled : Bool} → nodeAt table node .kind ≡ BOOLEAN → WritesRow (how .put) pool rows out out′ i core r (fitTruth top (restOf pool rows i))
+        → WritesWire how table pool rows out w core out′ w r i node top labelled
+    wire-boolean {out′} {r} {labelled} k d = record {
+      writes = λ modes s v h. by-boolean _ _ _ _ (λ u. WritesBy how table pool rows out w core out′ w r i modes (fitWire (heldIn table) u top labelled)) node v h k
+          (along (boolean-truth (heldIn table) top labelled (restOf pool rows i)) (d .writes modes (heldIn table) w holds));
+    }
 
-  array-either : (u : Node) (labelled : Bool) → fitWire (heldIn table) (array u) labelled (restOf pool rows i) ≡ fitWire (heldIn table) (array u) false (restOf pool rows i)
-  unfolding fitWire
-  array-either u labelled = refl
+    array-either : (u : Node) (labelled : Bool) → fitWire (heldIn table) (array u) top labelled (restOf pool rows i) ≡ fitWire (heldIn table) (array u) top false (restOf pool rows i)
+    unfolding fitWire
+    array-either u labelled = refl
 
-  -- an array has a label of its own
-  pub wire-array : {out′ w′ : List ℕ} {r : Progress} {labelled : Bool} → nodeAt table node .kind ≡ ARRAY → WritesWire how table pool rows out w core out′ w′ r i node false → WritesWire how table pool rows out w core out′ w′ r i node labelled
-  wire-array {out′} {w′} {r} {labelled} k d = record {
-    writes = λ modes s v h. by-array _ _ _ _ (λ u. IsWire table w node u → WritesBy how table pool rows out w core out′ w′ r i modes (fitWire (heldIn table) u labelled)) node v h k
-        (λ u t g h₁. along (array-either u labelled) (d .writes modes s (array u) h₁)) h;
-  }
+    -- an array has a label of its own
+    pub wire-array : {out′ w′ : List ℕ} {r : Progress} {labelled : Bool} → nodeAt table node .kind ≡ ARRAY → WritesWire how table pool rows out w core out′ w′ r i node top false → WritesWire how table pool rows out w core out′ w′ r i node top labelled
+    wire-array {out′} {w′} {r} {labelled} k d = record {
+      writes = λ modes s v h. by-array _ _ _ _ (λ u. IsWire table w node u → WritesBy how table pool rows out w core out′ w′ r i modes (fitWire (heldIn table) u top labelled)) node v h k
+          (λ u t g h₁. along (array-either u labelled) (d .writes modes s (array u) h₁)) h;
+    }
 
-  by-fields : {count : ℕ} → nodeAt table node .kind ≡ RECORD → count ≡ nodeAt table node .argument
-      → (P : Wire → Type 0) (v : Wire) → IsWire table w node v → ((ws : Fields) → fieldCount ws ≡ count → AreFields table w (node + 1) ws → P (fields ws)) → P v
-  by-fields k c P v h f = by-record _ _ _ _ P node v h k (λ ws t e g. f ws (sym (c ∙ e)) g)
+    by-fields : {count : ℕ} → nodeAt table node .kind ≡ RECORD → count ≡ nodeAt table node .argument
+        → (P : Wire → Type 0) (v : Wire) → IsWire table w node v → ((ws : Fields) → fieldCount ws ≡ count → AreFields table w (node + 1) ws → P (fields ws)) → P v
+    by-fields k c P v h f = by-record _ _ _ _ P node v h k (λ ws t e g. f ws (sym (c ∙ e)) g)
 
-  module _ (labelled : Bool) {count : ℕ} (k : nodeAt table node .kind ≡ RECORD) (c : count ≡ nodeAt table node .argument) where
-    module _ {out₁ : List ℕ} {r₁ : Progress} (d : WritesRow (how .put) pool rows out out₁ i core r₁ (fitRecord count labelled (restOf pool rows i))) where
-      first-does : (modes : ℕ) (ws : Fields) → fieldCount ws ≡ count → Writes (how .put) modes (heldIn table) pool rows out w core out₁ w r₁ (fitRecord (fieldCount ws) labelled (restOf pool rows i))
-      first-does modes ws e = rw e (d .writes modes (heldIn table) w holds)
+    module _ (labelled : Bool) {count : ℕ} (k : nodeAt table node .kind ≡ RECORD) (c : count ≡ nodeAt table node .argument) where
+      module _ {out₁ : List ℕ} {r₁ : Progress} (d : WritesRow (how .put) pool rows out out₁ i core r₁ (fitRecord count top labelled (restOf pool rows i))) where
+        first-does : (modes : ℕ) (ws : Fields) → fieldCount ws ≡ count → Writes (how .put) modes (heldIn table) pool rows out w core out₁ w r₁ (fitRecord (fieldCount ws) top labelled (restOf pool rows i))
+        first-does modes ws e = rw e (d .writes modes (heldIn table) w holds)
 
-      pub record-not : {r : Progress} {n j : ℕ} → r₁ ≡ Refused n j → r ≡ r₁ → WritesWire how table pool rows out w core out₁ w r i node labelled
-      record-not q t = rw t (record {
-        writes = λ modes s v h. by-fields k c (λ u. WritesBy how table pool rows out w core out₁ w r₁ i modes (fitWire (heldIn table) u labelled)) v h
-            (λ ws e g. along (record-first (heldIn table) labelled (restOf pool rows i) ws) (seqs-not _ (fitAll (heldIn table) ws) (first-does modes ws e) q));
-      })
+        pub record-not : {r : Progress} {n j : ℕ} → r₁ ≡ Refused n j → r ≡ r₁ → WritesWire how table pool rows out w core out₁ w r i node top labelled
+        record-not q t = rw t (record {
+          writes = λ modes s v h. by-fields k c (λ u. WritesBy how table pool rows out w core out₁ w r₁ i modes (fitWire (heldIn table) u top labelled)) v h
+              (λ ws e g. along (record-first (heldIn table) top labelled (restOf pool rows i) ws) (seqs-not _ (fitAll (heldIn table) ws) (first-does modes ws e) q));
+        })
 
-      pub record-then : {out′ w′ : List ℕ} {r : Progress} {i₁ core₁ : ℕ} → r₁ ≡ Done i₁ core₁ → WritesFields how table pool rows out₁ w core₁ out′ w′ r i₁ (node + 1) count
-          → WritesWire how table pool rows out w core out′ w′ r i node labelled
-      record-then {out′} {w′} {r} q f = record {
-        writes = λ modes s v h. by-fields k c (λ u. WritesBy how table pool rows out w core out′ w′ r i modes (fitWire (heldIn table) u labelled)) v h
-            (λ ws e g. along (record-first (heldIn table) labelled (restOf pool rows i) ws) (seqs _ (fitAll (heldIn table) ws) (first-does modes ws e) q (f .writes modes s ws g e)));
+        pub record-then : {out′ w′ : List ℕ} {r : Progress} {i₁ core₁ : ℕ} → r₁ ≡ Done i₁ core₁ → WritesFields how table pool rows out₁ w core₁ out′ w′ r i₁ (node + 1) count
+            → WritesWire how table pool rows out w core out′ w′ r i node top labelled
+        record-then {out′} {w′} {r} q f = record {
+          writes = λ modes s v h. by-fields k c (λ u. WritesBy how table pool rows out w core out′ w′ r i modes (fitWire (heldIn table) u top labelled)) v h
+              (λ ws e g. along (record-first (heldIn table) top labelled (restOf pool rows i) ws) (seqs _ (fitAll (heldIn table) ws) (first-does modes ws e) q (f .writes modes s ws g e)));
+        }
+
+    -- ---- an array
+
+    -- with n entries
+    abbrev entriesOf : ℕ → Node → Fit
+    entriesOf n u r = fitEntries n (λ t. fitValue (heldIn table) false u t) r
+
+    abbrev after : ℕ → Node → ℤ → Answer (List Event × Rest)
+    after n u l = ok (mark l ∷ [], restOf pool rows (i + 1)) >>= (λ x. entriesOf n u (x .1) >>= (λ y. ok (joined x y)))
+
+    array-value : {n : ℕ} (u : Node) → valueIn arrayRow (looked pool rows top i) ≡ some n → n < 2 ^ 64 → fitWire (heldIn table) (array u) top false (restOf pool rows i) ≡ after n u (pos n)
+    unfolding fitField
+    array-value u e b = array-is pool rows top i (heldIn table) false u e b
+
+    -- a count that is no label has no rows enough for it
+    any-label : (n : ℕ) (u : Node) → after n u (pos n) ≡ after n u (integer n)
+    unfolding fitField _>>=_
+    any-label n u = by-lt n (2 ^ 63) (λ b. ap (λ l. after n u l) (sym (integer-low b))) (λ b. high b (entriesOf n u (restOf pool rows (i + 1))) refl)
+      where
+        high : 2 ^ 63 ≤ n → (m : Answer (List Event × Rest)) → entriesOf n u (restOf pool rows (i + 1)) ≡ m → after n u (pos n) ≡ after n u (integer n)
+        high b (ok y) e =
+            let s = entries-use n (λ t. fitNode (heldIn table) u false t) (λ t. node-uses (heldIn table) u false t) (restOf pool rows (i + 1)) in
+            let h : n + length (y .1 .cells) ≤ length (restOf pool rows (i + 1) .cells) = ok-says (rw e at s) in
+            absurd (omega (arith, length-shown pool rows (i + 1) (rowCount rows - (i + 1)), holds .few))
+        high b (refuse m j) e = rw e
+
+    module _ (k : nodeAt table node .kind ≡ ARRAY) where
+      by-entries : (P : Wire → Type 0) (v : Wire) → IsWire table w node v → ((u : Node) → IsNode table w (node + 1) u → P (array u)) → P v
+      by-entries P v h f = by-array _ _ _ _ P node v h k (λ u t g. f u g)
+
+      pub array-none : {out′ : List ℕ} → valueIn arrayRow (looked pool rows top i) ≡ none → WritesWire how table pool rows out w core out′ w (Refused 42 i) i node top false
+      array-none {out′} e = record {
+        writes = λ modes s v h. by-entries (λ u. WritesBy how table pool rows out w core out′ w (Refused 42 i) i modes (fitWire (heldIn table) u top false)) v h
+            (λ u g. along (array-not pool rows top i (heldIn table) false u e) (refuses 42 i));
       }
 
-  -- ---- an array
+      module _ {n : ℕ} {out₁ : List ℕ} {r₁ : Progress} (e : valueIn arrayRow (looked pool rows top i) ≡ some n) (b : n < 2 ^ 64) (d : Marks (how .put) out out₁ i core r₁ (integer n)) where
+        mark-does : (modes : ℕ) → Writes (how .put) modes (heldIn table) pool rows out w core out₁ w r₁ (ok (mark (integer n) ∷ [], restOf pool rows (i + 1)))
+        mark-does modes = d .writes pool rows (value-there pool rows top i arrayRow e) .writes modes (heldIn table) w holds
 
-  -- with n entries
-  abbrev entriesOf : ℕ → Node → Fit
-  entriesOf n u r = fitEntries n (λ t. fitValue (heldIn table) false u t) r
+        pub array-refused : {r : Progress} {m j : ℕ} → r₁ ≡ Refused m j → r ≡ r₁ → WritesWire how table pool rows out w core out₁ w r i node top false
+        array-refused q t = rw t (record {
+          writes = λ modes s v h. by-entries (λ u. WritesBy how table pool rows out w core out₁ w r₁ i modes (fitWire (heldIn table) u top false)) v h
+              (λ u g. along (array-value u e b ∙ any-label n u) (seqs-not _ (entriesOf n u) (mark-does modes) q));
+        })
 
-  abbrev after : ℕ → Node → ℤ → Answer (List Event × Rest)
-  after n u l = ok (mark l ∷ [], restOf pool rows (i + 1)) >>= (λ x. entriesOf n u (x .1) >>= (λ y. ok (joined x y)))
+        pub array-then : {out′ w′ : List ℕ} {r : Progress} {i₁ core₁ : ℕ} → r₁ ≡ Done i₁ core₁ → WritesEntries how table pool rows out₁ w core₁ out′ w′ r i₁ (node + 1) n
+            → WritesWire how table pool rows out w core out′ w′ r i node top false
+        array-then {out′} {w′} {r} q f = record {
+          writes = λ modes s v h. by-entries (λ u. WritesBy how table pool rows out w core out′ w′ r i modes (fitWire (heldIn table) u top false)) v h
+              (λ u g. along (array-value u e b ∙ any-label n u) (seqs _ (entriesOf n u) (mark-does modes) q (f .writes modes s u g)));
+        }
 
-  array-value : {n : ℕ} (u : Node) → valueIn arrayRow (looked pool rows i) ≡ some n → n < 2 ^ 64 → fitWire (heldIn table) (array u) false (restOf pool rows i) ≡ after n u (pos n)
-  unfolding fitField
-  array-value u e b = array-is pool rows i (heldIn table) false u e b
+    -- ---- a BLOCK
 
-  -- a count that is no label has no rows enough for it
-  any-label : (n : ℕ) (u : Node) → after n u (pos n) ≡ after n u (integer n)
-  unfolding fitField _>>=_
-  any-label n u = by-lt n (2 ^ 63) (λ b. ap (λ l. after n u l) (sym (integer-low b))) (λ b. high b (entriesOf n u (restOf pool rows (i + 1))) refl)
-    where
-      high : 2 ^ 63 ≤ n → (m : Answer (List Event × Rest)) → entriesOf n u (restOf pool rows (i + 1)) ≡ m → after n u (pos n) ≡ after n u (integer n)
-      high b (ok y) e =
-          let s = entries-use n (λ t. fitNode (heldIn table) u false t) (λ t. node-uses (heldIn table) u false t) (restOf pool rows (i + 1)) in
-          let h : n + length (y .1 .cells) ≤ length (restOf pool rows (i + 1) .cells) = ok-says (rw e at s) in
-          absurd (omega (arith, length-shown pool rows (i + 1) (rowCount rows - (i + 1)), holds .few))
-      high b (refuse m j) e = rw e
-
-  module _ (k : nodeAt table node .kind ≡ ARRAY) where
-    by-entries : (P : Wire → Type 0) (v : Wire) → IsWire table w node v → ((u : Node) → IsNode table w (node + 1) u → P (array u)) → P v
-    by-entries P v h f = by-array _ _ _ _ P node v h k (λ u t g. f u g)
-
-    pub array-none : {out′ : List ℕ} → valueIn arrayRow (looked pool rows i) ≡ none → WritesWire how table pool rows out w core out′ w (Refused 42 i) i node false
-    array-none {out′} e = record {
-      writes = λ modes s v h. by-entries (λ u. WritesBy how table pool rows out w core out′ w (Refused 42 i) i modes (fitWire (heldIn table) u false)) v h
-          (λ u g. along (array-not pool rows i (heldIn table) false u e) (refuses 42 i));
-    }
-
-    module _ {n : ℕ} {out₁ : List ℕ} {r₁ : Progress} (e : valueIn arrayRow (looked pool rows i) ≡ some n) (b : n < 2 ^ 64) (d : Marks (how .put) out out₁ i core r₁ (integer n)) where
-      mark-does : (modes : ℕ) → Writes (how .put) modes (heldIn table) pool rows out w core out₁ w r₁ (ok (mark (integer n) ∷ [], restOf pool rows (i + 1)))
-      mark-does modes = d .writes pool rows (value-there pool rows i arrayRow e) .writes modes (heldIn table) w holds
-
-      pub array-refused : {r : Progress} {m j : ℕ} → r₁ ≡ Refused m j → r ≡ r₁ → WritesWire how table pool rows out w core out₁ w r i node false
-      array-refused q t = rw t (record {
-        writes = λ modes s v h. by-entries (λ u. WritesBy how table pool rows out w core out₁ w r₁ i modes (fitWire (heldIn table) u false)) v h
-            (λ u g. along (array-value u e b ∙ any-label n u) (seqs-not _ (entriesOf n u) (mark-does modes) q));
-      })
-
-      pub array-then : {out′ w′ : List ℕ} {r : Progress} {i₁ core₁ : ℕ} → r₁ ≡ Done i₁ core₁ → WritesEntries how table pool rows out₁ w core₁ out′ w′ r i₁ (node + 1) n
-          → WritesWire how table pool rows out w core out′ w′ r i node false
-      array-then {out′} {w′} {r} q f = record {
-        writes = λ modes s v h. by-entries (λ u. WritesBy how table pool rows out w core out′ w′ r i modes (fitWire (heldIn table) u false)) v h
-            (λ u g. along (array-value u e b ∙ any-label n u) (seqs _ (entriesOf n u) (mark-does modes) q (f .writes modes s u g)));
+    module _ {out′ w′ : List ℕ} {r : Progress} {labelled numbered : Bool} {key : ℕ} {l : code.Leaf} where
+      pub block-writes : nodeAt table node .kind ≡ BLOCK → key ≡ nodeAt table node .argument → l ≡ leafIn (tables.leafOf (nodeAt table (node + 1))) → numbered ≡ (deduplicate (nodeAt table node) && how .numbers)
+          → WritesText how numbered key pool rows out w core out′ w′ r (fitLeaf key (leafOf l) top labelled (restOf pool rows i)) → WritesWire how table pool rows out w core out′ w′ r i node top labelled
+      unfolding fitWire isNumbered
+      block-writes k a e n d = record {
+        writes = λ modes s v h. by-block _ _ _ _ (λ u. WritesBy how table pool rows out w core out′ w′ r i modes (fitWire (heldIn table) u top labelled)) node v h k
+            (λ g.
+            let x : leafOf l ≡ heldIn table (nodeAt table node .argument) .leaf = ap leafOf (e ∙ leaf-held g) ∙ leaf-back _ in
+            let y : isNumbered modes (heldIn table key) ≡ numbered = ap (λ j. heldIn table j .dedup && not (noDeduplication modes)) a ∙ ap₂ _&&_ (sym (dedup-held g)) (s .numbers) ∙ sym n in
+            along (sym (ap₂ (λ (j : ℕ) (z : Leaf). fitLeaf j z top labelled (restOf pool rows i)) a x)) (d .writes modes (heldIn table) (s .inline) y));
       }
-
-  -- ---- a BLOCK
-
-  module _ {out′ w′ : List ℕ} {r : Progress} {labelled numbered : Bool} {key : ℕ} {l : code.Leaf} where
-    pub block-writes : nodeAt table node .kind ≡ BLOCK → key ≡ nodeAt table node .argument → l ≡ leafIn (tables.leafOf (nodeAt table (node + 1))) → numbered ≡ (deduplicate (nodeAt table node) && how .numbers)
-        → WritesText how numbered key pool rows out w core out′ w′ r (fitLeaf key (leafOf l) labelled (restOf pool rows i)) → WritesWire how table pool rows out w core out′ w′ r i node labelled
-    unfolding fitWire isNumbered
-    block-writes k a e n d = record {
-      writes = λ modes s v h. by-block _ _ _ _ (λ u. WritesBy how table pool rows out w core out′ w′ r i modes (fitWire (heldIn table) u labelled)) node v h k
-          (λ g.
-          let x : leafOf l ≡ heldIn table (nodeAt table node .argument) .leaf = ap leafOf (e ∙ leaf-held g) ∙ leaf-back _ in
-          let y : isNumbered modes (heldIn table key) ≡ numbered = ap (λ j. heldIn table j .dedup && not (noDeduplication modes)) a ∙ ap₂ _&&_ (sym (dedup-held g)) (s .numbers) ∙ sym n in
-          along (sym (ap₂ (λ (j : ℕ) (z : Leaf). fitLeaf j z labelled (restOf pool rows i)) a x)) (d .writes modes (heldIn table) (s .inline) y));
-    }

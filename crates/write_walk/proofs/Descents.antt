@@ -29,8 +29,8 @@ use Rattle.write_walk.proofs.Several.{entry-alone, field-alone}
 module _ (how : Pass) (table pool rows out w : List ℕ) (i core left node : ℕ) (holds : Holds pool rows w i core) (fits : FitsNode table w left node) (whole : Sized table) where
   -- nothing stands in front of a value that is neither omittable nor nullable
   module _ (z : eqb (nodeAt table node .kind) NULLABLE ≡ false) where
-    pub plain : {out′ w′ : List ℕ} {r : Progress} → WritesWire how table pool rows out w core out′ w′ r i node false → WritesNode how table pool rows out w core out′ w′ r i node false
-    plain d = value-here how table pool rows out w i core node holds (sym z) (open-plain false false refl refl) refl d
+    pub plain : {out′ w′ : List ℕ} {r : Progress} → WritesWire how table pool rows out w core out′ w′ r i node node false → WritesNode how table pool rows out w core out′ w′ r i node false
+    plain d = value-here how table pool rows out w i core node holds (sym z) (open-plain node false false refl refl) refl d
 
     wire-fits : FitsWire table w left node
     wire-fits = own-fits table w left node (sym z) refl refl fits
@@ -48,10 +48,10 @@ module _ (how : Pass) (table pool rows out w : List ℕ) (i core left node : ℕ
 
   -- its own row, of a pass that puts or counts so
   module _ {put : Bool} (e : how .put ≡ put) {out₁ : List ℕ} where
-    step-not : (array : Bool) {r₁ : Progress} → Alone table pool rows node i (One array) → own.Stops put table pool rows out core i node array false out₁ r₁ → WritesNode how table pool rows out w core out₁ w r₁ i node false
+    step-not : (array : Bool) {r₁ : Progress} → Alone table pool rows node i (One array) → own.Stops put table pool rows out core i node node array false out₁ r₁ → WritesNode how table pool rows out w core out₁ w r₁ i node false
     step-not array x s = plain (no-front array x) (s .writes how e w holds)
 
-    step-remaining : (array : Bool) {count i₁ core₁ : ℕ} → Alone table pool rows node i (One array) → own.Makes put table pool rows out core i node array false out₁ count i₁ core₁ → Inward out₁ i₁ core₁ (absentIn array (nodeAt table (node + 1)))
+    step-remaining : (array : Bool) {count i₁ core₁ : ℕ} → Alone table pool rows node i (One array) → own.Makes put table pool rows out core i node node array false out₁ count i₁ core₁ → Inward out₁ i₁ core₁ (absentIn array (nodeAt table (node + 1)))
     step-remaining true {count} x m =
         let o = m .remaining how e w holds in
         let c : count ≡ 1 = some-same (sym (m .said refl) ∙ x .row) in
@@ -89,7 +89,7 @@ module _ (put : Bool) (table pool rows out₀ : List ℕ) (core₀ i₀ node₀ 
         record { work = s .work; left = s .left - (node - node₀); holds = y .holds; fits = y .fits }
 
     module _ (whole : Sized table) (z : o ≡ false) (array : Bool) (a : Alone table pool rows node i (One array)) {out₁ : List ℕ} where
-      pub leads-again : {count i₁ core₁ : ℕ} {o₁ : Bool} → own.Makes put table pool rows out core i node array false out₁ count i₁ core₁ → o₁ ≡ absentIn array (nodeAt table (node + 1)) → Descends put table pool rows out₀ core₀ i₀ node₀ o₀ out₁ (To (node + 1) o₁ i₁ core₁)
+      pub leads-again : {count i₁ core₁ : ℕ} {o₁ : Bool} → own.Makes put table pool rows out core i node node array false out₁ count i₁ core₁ → o₁ ≡ absentIn array (nodeAt table (node + 1)) → Descends put table pool rows out₀ core₀ i₀ node₀ o₀ out₁ (To (node + 1) o₁ i₁ core₁)
       leads-again m t = rw t (record {
         behind = omega (arith, x .behind);
         remaining = λ how e w h f.
@@ -98,7 +98,7 @@ module _ (put : Bool) (table pool rows out₀ : List ℕ) (core₀ i₀ node₀ 
             record { holds = s .holds; fits = path-as (omega (arith, x .behind)) (s .fits); whole = λ u. y .whole (s .whole u) };
       })
 
-      pub leads-not : {r r₁ : Progress} → own.Stops put table pool rows out core i node array false out₁ r₁ → r ≡ r₁ → Stops put table pool rows out₀ core₀ i₀ node₀ o₀ out₁ r
+      pub leads-not : {r r₁ : Progress} → own.Stops put table pool rows out core i node node array false out₁ r₁ → r ≡ r₁ → Stops put table pool rows out₀ core₀ i₀ node₀ o₀ out₁ r
       leads-not s t = rw t (record {
         number = s .number;
         second = s .second;

@@ -33,10 +33,10 @@ module _ (put : Bool) (table pool rows out : List ℕ) (core i node : ℕ) where
     start-fits c w {left} z f = fields-sequence z (fields-fit table w left node k c (own-fits table w left node (sym no-front) refl refl f) .fields refl)
 
     module _ {out₁ : List ℕ} where
-      pub start-not : {r r₁ : Progress} → own.Stops put table pool rows out core i node false false out₁ r₁ → r ≡ r₁ → Ends put table pool rows out core i node false out₁ r
+      pub start-not : {r r₁ : Progress} → own.Stops put table pool rows out core i node node false false out₁ r₁ → r ≡ r₁ → Ends put table pool rows out core i node false out₁ r
       start-not s t = rw t (record { writes = λ how e w h f. plain how table pool rows out w i core _ node h f whole no-front (s .writes how e w h) })
 
-      module _ {count i₁ core₁ : ℕ} (m : own.Makes put table pool rows out core i node false false out₁ count i₁ core₁) where
+      module _ {count i₁ core₁ : ℕ} (m : own.Makes put table pool rows out core i node node false false out₁ count i₁ core₁) where
         pub start-none : count ≡ 0 → Ends put table pool rows out core i node false out₁ (Done i₁ core₁)
         start-none z = record {
           writes = λ how e w h f.

@@ -20,18 +20,18 @@ use Rattle.write_walk.specs.Pass.{WritesNode}
 use Rattle.write_walk.specs.Remaining.{Leaves, Ends}
 
 -- row i is one of this kind, whose word is 1
-pub record IsOne (pool rows : List ℕ) (kind i : ℕ) (r : Bool) : Type 0 where
-  pub is : r ≡ true → valueIn kind (looked pool rows i) ≡ some 1
+pub record IsOne (pool rows : List ℕ) (node kind i : ℕ) (r : Bool) : Type 0 where
+  pub is : r ≡ true → valueIn kind (looked pool rows node i) ≡ some 1
 
 -- The node and row i are those of an array of one entry, or of a record of one field.
 pub record OneEntry (table pool rows : List ℕ) (node i : ℕ) : Type 0 where
   pub kind : nodeAt table node .kind ≡ ARRAY
-  pub row : valueIn arrayRow (looked pool rows i) ≡ some 1
+  pub row : valueIn arrayRow (looked pool rows node i) ≡ some 1
 
 pub record OneField (table pool rows : List ℕ) (node i : ℕ) : Type 0 where
   pub kind : nodeAt table node .kind ≡ RECORD
   pub count : nodeAt table node .argument ≡ 1
-  pub row : valueIn recordRow (looked pool rows i) ≡ some 1
+  pub row : valueIn recordRow (looked pool rows node i) ≡ some 1
 
 abbrev pub Alone : List ℕ → List ℕ → List ℕ → ℕ → ℕ → Holder → Type 0
 Alone table pool rows node i (holders.One true) = OneEntry table pool rows node i

@@ -32,8 +32,9 @@ module _ (how : Pass) (table pool rows out w : List ℕ) (core : ℕ) (out′ w�
     pub record WritesNode (omittable : Bool) : Type 0 where
       pub writes : (modes : ℕ) → Suits how modes → (v : Node) → IsNode table w node v → WritesBy modes (fitValue (heldIn table) omittable v)
 
-    pub record WritesWire (labelled : Bool) : Type 0 where
-      pub writes : (modes : ℕ) → Suits how modes → (v : Wire) → IsWire table w node v → WritesBy modes (fitWire (heldIn table) v labelled)
+    -- the value at its own node, with its row under `top`, the topmost one
+    pub record WritesWire (top : ℕ) (labelled : Bool) : Type 0 where
+      pub writes : (modes : ℕ) → Suits how modes → (v : Wire) → IsWire table w node v → WritesBy modes (fitWire (heldIn table) v top labelled)
 
     pub record WritesFields (count : ℕ) : Type 0 where
       pub writes : (modes : ℕ) → Suits how modes → (ws : Fields) → AreFields table w node ws → fieldCount ws ≡ count → WritesBy modes (fitAll (heldIn table) ws)

@@ -27,11 +27,11 @@ pub enum Descent {
 }
 
 // Of a row of this kind, whether its word is 1.
-fn is_one(rows: &[u64], pool: &[u8], kind: u64, i: usize) -> bool
+fn is_one(rows: &[u64], pool: &[u8], node: usize, kind: u64, i: usize) -> bool
     requires { ⌜ integerRow ≤ kind ⌝ }
-    ensures { λ r. ⌜ IsOne (now (pool .entry)) (now (rows .entry)) kind i r ⌝ }
+    ensures { λ r. ⌜ IsOne (now (pool .entry)) (now (rows .entry)) node kind i r ⌝ }
 {
-    let Word::Is(n) = row::word_at(rows, pool, kind, i) else {
+    let Word::Is(n) = row::word_at(rows, pool, node, kind, i) else {
         return false;
     };
     n == 1
@@ -45,21 +45,22 @@ fn holds_one(table: &[u8], rows: &[u64], pool: &[u8], node: usize, i: usize) -> 
     let k = nodes::kind_at(table, node);
     if k == nodes::RECORD {
         if nodes::argument_at(table, node) == 1 {
-            if is_one(rows, pool, kind::RECORD, i) {
+            if is_one(rows, pool, node, kind::RECORD, i) {
                 return Holder::One(false);
             }
         }
         return Holder::Not;
     }
     if k == nodes::ARRAY {
-        if is_one(rows, pool, kind::ARRAY, i) {
+        if is_one(rows, pool, node, kind::ARRAY, i) {
             return Holder::One(true);
         }
     }
     Holder::Not
 }
 
-// This stops at a value that may be absent: its row says first whether it is.
+// This stops at a value that may be absent: its row says first whether it is. A record or an array that it goes through is
+// under no NULLABLE, and so its topmost node is its own.
 pub fn descend(
     table: &[u8],
     rows: &[u64],
@@ -83,7 +84,7 @@ pub fn descend(
         let Holder::One(array) = h else {
             return Descent::To(at, false, n, end);
         };
-        let held = own::own_row(table, rows, pool, out, put, array, false, at, n, end);
+        let held = own::own_row(table, rows, pool, out, put, array, false, at, at, n, end);
         let Own::Values(_, next, further) = held else {
             return Descent::Stop(own::step(held));
         };

@@ -51,12 +51,13 @@ fn block(
     work: &mut [u32],
     how: Pass,
     labelled: bool,
+    top: usize,
     node: usize,
     i: usize,
     core: usize,
 ) -> Progress
     requires { ⌜ (Holds (now pool) (now rows) (now work) i core) × (nodeAt (now table) node .kind ≡ BLOCK) × (nodeAt (now table) node .argument < 32) × (15 + 4 * node ≤ length (now table)) ⌝ }
-    ensures { λ r. ⌜ WritesWire how (now (table .entry)) (now (pool .entry)) (now (rows .entry)) (now (out .entry)) (now (work .entry)) core (now (out .exit)) (now (work .exit)) r i node labelled ⌝ }
+    ensures { λ r. ⌜ WritesWire how (now (table .entry)) (now (pool .entry)) (now (rows .entry)) (now (out .entry)) (now (work .entry)) core (now (out .exit)) (now (work .exit)) r i node top labelled ⌝ }
 {
     let key = nodes::argument_at(table, node);
     let leaf = nodes::leaf_at(table, node + 1);
@@ -71,6 +72,7 @@ fn block(
         numbered,
         labelled,
         key,
+        top,
         i,
         core,
     )
@@ -95,7 +97,7 @@ fn value(
     ensures { λ r. ⌜ WritesNode how (now (table .entry)) (now (pool .entry)) (now (rows .entry)) (now (out .entry)) (now (work .entry)) core (now (out .exit)) (now (work .exit)) r i node omittable ⌝ }
 {
     let nullable = nodes::kind_at(table, node) == nodes::NULLABLE;
-    let first = write_row::open_value(rows, pool, out, how.put, omittable, nullable, i, core);
+    let first = write_row::open_value(rows, pool, out, how.put, omittable, nullable, node, i, core);
     let Opening::Here(labelled) = first else {
         return so_far(first, i, core);
     };
@@ -109,6 +111,7 @@ fn value(
         work,
         how,
         labelled,
+        node,
         own,
         i,
         core,
@@ -116,7 +119,8 @@ fn value(
     )
 }
 
-// By the kind of the value's own node, the commonest first.
+// By the kind of the value's own node, the commonest first. Its row is under `top`, the topmost node: its own, or the NULLABLE
+// above it.
 fn wire(
     table: &[u8],
     rows: &[u64],
@@ -125,20 +129,33 @@ fn wire(
     work: &mut [u32],
     how: Pass,
     labelled: bool,
+    top: usize,
     node: usize,
     i: usize,
     core: usize,
     left: usize,
 ) -> Progress
     requires { ⌜ (Holds (now pool) (now rows) (now work) i core) × Sized (now table) × FitsWire (now table) (now work) left node ⌝ }
-    ensures { λ r. ⌜ WritesWire how (now (table .entry)) (now (pool .entry)) (now (rows .entry)) (now (out .entry)) (now (work .entry)) core (now (out .exit)) (now (work .exit)) r i node labelled ⌝ }
+    ensures { λ r. ⌜ WritesWire how (now (table .entry)) (now (pool .entry)) (now (rows .entry)) (now (out .entry)) (now (work .entry)) core (now (out .exit)) (now (work .exit)) r i node top labelled ⌝ }
 {
     let kind = nodes::kind_at(table, node);
     if kind == nodes::BLOCK {
-        return block(table, rows, pool, out, work, how, labelled, node, i, core);
+        return block(
+            table,
+            rows,
+            pool,
+            out,
+            work,
+            how,
+            labelled,
+            top,
+            node,
+            i,
+            core,
+        );
     }
     if kind == nodes::BOOLEAN {
-        return write_row::boolean(rows, pool, out, how.put, i, core);
+        return write_row::boolean(rows, pool, out, how.put, top, i, core);
     }
     if kind == nodes::RECORD {
         return record(
@@ -149,13 +166,14 @@ fn wire(
             work,
             how,
             labelled,
+            top,
             node,
             i,
             core,
             left,
         );
     }
-    array(table, rows, pool, out, work, how, node, i, core, left)
+    array(table, rows, pool, out, work, how, top, node, i, core, left)
 }
 
 fn record(
@@ -166,13 +184,14 @@ fn record(
     work: &mut [u32],
     how: Pass,
     labelled: bool,
+    top: usize,
     node: usize,
     i: usize,
     core: usize,
     left: usize,
 ) -> Progress
     requires { ⌜ (Holds (now pool) (now rows) (now work) i core) × Sized (now table) × FitsWire (now table) (now work) left node × (nodeAt (now table) node .kind ≡ RECORD) ⌝ }
-    ensures { λ r. ⌜ WritesWire how (now (table .entry)) (now (pool .entry)) (now (rows .entry)) (now (out .entry)) (now (work .entry)) core (now (out .exit)) (now (work .exit)) r i node labelled ⌝ }
+    ensures { λ r. ⌜ WritesWire how (now (table .entry)) (now (pool .entry)) (now (rows .entry)) (now (out .entry)) (now (work .entry)) core (now (out .exit)) (now (work .exit)) r i node top labelled ⌝ }
 {
     let held = own::own_row(
         table,
@@ -182,6 +201,7 @@ fn record(
         how.put,
         false,
         labelled,
+        top,
         node,
         i,
         core,
@@ -215,15 +235,28 @@ fn array(
     out: &mut [u8],
     work: &mut [u32],
     how: Pass,
+    top: usize,
     node: usize,
     i: usize,
     core: usize,
     left: usize,
 ) -> Progress
     requires { ⌜ (Holds (now pool) (now rows) (now work) i core) × Sized (now table) × FitsWire (now table) (now work) left node × (nodeAt (now table) node .kind ≡ ARRAY) ⌝ }
-    ensures { λ r. ⌜ WritesWire how (now (table .entry)) (now (pool .entry)) (now (rows .entry)) (now (out .entry)) (now (work .entry)) core (now (out .exit)) (now (work .exit)) r i node false ⌝ }
+    ensures { λ r. ⌜ WritesWire how (now (table .entry)) (now (pool .entry)) (now (rows .entry)) (now (out .entry)) (now (work .entry)) core (now (out .exit)) (now (work .exit)) r i node top false ⌝ }
 {
-    let held = own::own_row(table, rows, pool, out, how.put, true, false, node, i, core);
+    let held = own::own_row(
+        table,
+        rows,
+        pool,
+        out,
+        how.put,
+        true,
+        false,
+        top,
+        node,
+        i,
+        core,
+    );
     let Own::Values(count, next, end) = held else {
         return own::step(held);
     };

@@ -16,9 +16,9 @@ pub enum Own {
     Stop(Progress),
 }
 
-// A record has as many fields as its node says, and a label only if it may be absent or null. An array's label is how many
-// entries it has. A count of 2^63 or more is no label: there are not so many rows, so that a row will be missing and the
-// array is refused in any case, whatever label was written for it.
+// The row is under `top`, the topmost node. A record has as many fields as its own node says, and a label only if it may be
+// absent or null. An array's label is how many entries it has. A count of 2^63 or more is no label: there are not so many
+// rows, so that a row will be missing and the array is refused in any case, whatever label was written for it.
 pub fn own_row(
     table: &[u8],
     rows: &[u64],
@@ -27,15 +27,16 @@ pub fn own_row(
     put: bool,
     array: bool,
     labelled: bool,
+    top: usize,
     node: usize,
     i: usize,
     core: usize,
 ) -> Own
     requires { ⌜ (i ≤ 8192) × (core < 2 ^ 32) × (11 + 4 * node ≤ length (now table)) × IsHolder (now table) node array ⌝ }
-    ensures { λ r. ⌜ Owns put (now (table .entry)) (now (pool .entry)) (now (rows .entry)) (now (out .entry)) core i node array labelled (now (out .exit)) r ⌝ }
+    ensures { λ r. ⌜ Owns put (now (table .entry)) (now (pool .entry)) (now (rows .entry)) (now (out .entry)) core i node top array labelled (now (out .exit)) r ⌝ }
 {
     if array {
-        let Word::Is(count) = row::word_at(rows, pool, kind::ARRAY, i) else {
+        let Word::Is(count) = row::word_at(rows, pool, top, kind::ARRAY, i) else {
             return Own::Stop(Progress::Refused(42, i as u64));
         };
         let marked = write_row::mark(out, put, i, core, label::integer_of(count));
@@ -45,7 +46,7 @@ pub fn own_row(
         return Own::Values(count, next, end);
     }
     let fields = nodes::argument_at(table, node);
-    let r = write_row::record(rows, pool, out, put, labelled, fields, i, core);
+    let r = write_row::record(rows, pool, out, put, labelled, fields, top, i, core);
     let Progress::Done(first, far) = r else {
         return Own::Stop(super::again(r));
     };

@@ -37,7 +37,19 @@ pub fn begin(
     if nodes::kind_at(table, node) != nodes::RECORD {
         return Start::Values(node, 1, omittable, i, core);
     }
-    let held = own::own_row(table, rows, pool, out, put, false, false, node, i, core);
+    let held = own::own_row(
+        table,
+        rows,
+        pool,
+        out,
+        put,
+        false,
+        false,
+        node,
+        node,
+        i,
+        core,
+    );
     let Own::Values(count, next, end) = held else {
         return Start::Whole(own::step(held));
     };

@@ -17,7 +17,11 @@ enum-told : tie.Need-enum-told
 enum-told c = search needs
 
 returns : tie.Need-returns
-returns c = truth-none (told truth (c .before .before .truth-at .ensures) (c .enum-told .given .1))
+returns c =
+    let c2 = c .before .before in
+    let c6 = c2 .before .before .before .before in
+    let a = c6 .args in
+    truth-none (a .node) (told truth (c2 .truth-at .ensures) (c .enum-told .given .1))
 
 mark-requires : tie.Need-mark-requires
 mark-requires c κs = search needs
@@ -33,7 +37,7 @@ returns-2 c =
     let c8 = c6 .before .before in
     let c12 = c8 .before .before .before .before in
     let a = c12 .args in
-    truth-some (told truth (c8 .truth-at .ensures) (c6 .t .given .1 ∙ ap Is (c4 .if1 .taken))) (c2 .mark .ensures)
+    truth-some (a .node) (told truth (c8 .truth-at .ensures) (c6 .t .given .1 ∙ ap Is (c4 .if1 .taken))) (c2 .mark .ensures)
 
 mark-requires-2 : tie.Need-mark-requires-2
 mark-requires-2 c κs = search needs
@@ -49,7 +53,7 @@ returns-3 c =
     let c8 = c6 .before .before in
     let c12 = c8 .before .before .before .before in
     let a = c12 .args in
-    truth-some (told truth (c8 .truth-at .ensures) (c6 .t .given .1 ∙ ap Is (c4 .if1 .left))) (c2 .mark2 .ensures)
+    truth-some (a .node) (told truth (c8 .truth-at .ensures) (c6 .t .given .1 ∙ ap Is (c4 .if1 .left))) (c2 .mark2 .ensures)
 
 pub boolean-spec : {M : Type 1} → statement M
 boolean-spec =

@@ -9,7 +9,7 @@ use Rattle.write_row.proofs.open_value.Statement.{statement}
 use Rattle.write_row.proofs.open_value.Tie as tie
 
 returns : tie.Need-returns
-returns c = let a = c .before .before .before .before .args in open-plain (a .omittable) (a .nullable) (not-true _ (c .if1 .taken)) refl
+returns c = let a = c .before .before .before .before .args in open-plain (a .node) (a .omittable) (a .nullable) (not-true _ (c .if1 .taken)) refl
 
 front-at-requires : tie.Need-front-at-requires
 front-at-requires c κs = search needs
@@ -26,7 +26,7 @@ returns-2 c =
     let c3 = c2 .before in
     let c7 = c3 .before .before .before .before in
     let a = c7 .args in
-    open-refused (a .omittable) (a .nullable) (not-false _ (c3 .if1 .left)) (told front (c2 .front-at .ensures) (c .enum-told .given .1))
+    open-refused (a .node) (a .omittable) (a .nullable) (not-false _ (c3 .if1 .left)) (told front (c2 .front-at .ensures) (c .enum-told .given .1))
 
 enum-told-2 : tie.Need-enum-told-2
 enum-told-2 c = search needs
@@ -54,7 +54,7 @@ returns-3 c =
     let c9 = c7 .before .before in
     let c10 = c9 .before in
     let a = c10 .before .before .before .before .args in
-    open-gone (a .omittable) (a .nullable) (not-false _ (c10 .if1 .left)) (told front (c9 .front-at .ensures) (c7 .presence .given .1 ∙ ap Is (c4 .enum-told2 .given .1))) (c2 .mark .ensures)
+    open-gone (a .node) (a .omittable) (a .nullable) (not-false _ (c10 .if1 .left)) (told front (c9 .front-at .ensures) (c7 .presence .given .1 ∙ ap Is (c4 .enum-told2 .given .1))) (c2 .mark .ensures)
 
 same-length-2 : tie.Need-same-length-2
 same-length-2 c = search needs
@@ -67,7 +67,7 @@ returns-4 c =
     let c9 = c7 .before .before in
     let c10 = c9 .before in
     let a = c10 .before .before .before .before .args in
-    open-gone (a .omittable) (a .nullable) (not-false _ (c10 .if1 .left)) (told front (c9 .front-at .ensures) (c7 .presence .given .1 ∙ ap Is (c4 .enum-told3 .given .1))) (c2 .mark2 .ensures)
+    open-gone (a .node) (a .omittable) (a .nullable) (not-false _ (c10 .if1 .left)) (told front (c9 .front-at .ensures) (c7 .presence .given .1 ∙ ap Is (c4 .enum-told3 .given .1))) (c2 .mark2 .ensures)
 
 returns-5 : tie.Need-returns-5
 returns-5 c =
@@ -75,7 +75,7 @@ returns-5 c =
     let c5 = c3 .before .before in
     let c6 = c5 .before in
     let a = c6 .before .before .before .before .args in
-    open-here (a .omittable) (a .nullable) (not-false _ (c6 .if1 .left)) (told front (c5 .front-at .ensures) (c3 .presence .given .1 ∙ ap Is (c .enum-told4 .given .1))) refl
+    open-here (a .node) (a .omittable) (a .nullable) (not-false _ (c6 .if1 .left)) (told front (c5 .front-at .ensures) (c3 .presence .given .1 ∙ ap Is (c .enum-told4 .given .1))) refl
 
 pub open-value-spec : {M : Type 1} → statement M
 open-value-spec =

@@ -21,7 +21,7 @@ returns c =
     let c2 = c .before .before in
     let c6 = c2 .before .before .before .before in
     let a = c6 .args in
-    record-none (a .labelled) (a .count) (told word (c2 .word-at .ensures .0) (c .enum-told .given .1))
+    record-none (a .node) (a .labelled) (a .count) (told word (c2 .word-at .ensures .0) (c .enum-told .given .1))
 
 returns-2 : tie.Need-returns-2
 returns-2 c =
@@ -29,10 +29,10 @@ returns-2 c =
     let c4 = c2 .before .before in
     let c8 = c4 .before .before .before .before in
     let a = c8 .args in
-    record-wrong (a .labelled) (a .count) (told word (c4 .word-at .ensures .0) (c2 .n .given .1)) (c .if1 .taken)
+    record-wrong (a .node) (a .labelled) (a .count) (told word (c4 .word-at .ensures .0) (c2 .n .given .1)) (c .if1 .taken)
 
-add-t15 : tie.Need-add-t15
-add-t15 c = search needs
+add-t16 : tie.Need-add-t16
+add-t16 c = search needs
 
 returns-3 : tie.Need-returns-3
 returns-3 c =
@@ -40,7 +40,7 @@ returns-3 c =
     let c5 = c3 .before .before in
     let c9 = c5 .before .before .before .before in
     let a = c9 .args in
-    record-plain (a .labelled) (a .count) (told word (c5 .word-at .ensures .0) (c3 .n .given .1)) (c .before .if1 .left) (not-true _ (c .if2 .taken)) refl
+    record-plain (a .node) (a .labelled) (a .count) (told word (c5 .word-at .ensures .0) (c3 .n .given .1)) (c .before .if1 .left) (not-true _ (c .if2 .taken)) refl
 
 mark-requires : tie.Need-mark-requires
 mark-requires c κs = search needs
@@ -57,7 +57,7 @@ returns-4 c =
     let c9 = c7 .before .before in
     let c13 = c9 .before .before .before .before in
     let a = c13 .args in
-    record-front (a .labelled) (a .count) (told word (c9 .word-at .ensures .0) (c7 .n .given .1)) (c5 .if1 .left) (not-false _ (c4 .if2 .left)) (c2 .mark .ensures)
+    record-front (a .node) (a .labelled) (a .count) (told word (c9 .word-at .ensures .0) (c7 .n .given .1)) (c5 .if1 .left) (not-false _ (c4 .if2 .left)) (c2 .mark .ensures)
 
 pub record-spec : {M : Type 1} → statement M
 record-spec =
@@ -68,7 +68,7 @@ record-spec =
     enum-told
     returns
     returns-2
-    add-t15
+    add-t16
     returns-3
     mark-requires
     same-length

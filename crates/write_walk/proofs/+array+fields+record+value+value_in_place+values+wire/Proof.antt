@@ -62,7 +62,7 @@ use Rattle.write_walk.proofs.+array+fields+record+value+value_in_place+
 use Rattle.write_walk.proofs.+array+fields+record+value+value_in_place+values+wire.Tie.{close}
 
 abbrev μ-array : Measures 5 array-kinds.ps ℕ
-μ-array κs a = 8 * a .1 .1 .1 .1 .1 .1 .1 .1 .1 .0
+μ-array κs a = 8 * a .1 .1 .1 .1 .1 .1 .1 .1 .1 .1 .0
 
 abbrev μ-value-in-place : Measures 5 value-in-place-kinds.ps ℕ
 μ-value-in-place κs a = 8 * a .1 .1 .1 .1 .1 .1 .1 .1 .1 .1 .0 + 4
@@ -71,7 +71,7 @@ abbrev μ-fields : Measures 5 fields-kinds.ps ℕ
 μ-fields κs a = 8 * a .1 .1 .1 .1 .1 .1 .1 .1 .1 .1 .1 .0 + 3
 
 abbrev μ-record : Measures 5 record-kinds.ps ℕ
-μ-record κs a = 8 * a .1 .1 .1 .1 .1 .1 .1 .1 .1 .1 .0
+μ-record κs a = 8 * a .1 .1 .1 .1 .1 .1 .1 .1 .1 .1 .1 .0
 
 abbrev μ-values : Measures 5 values-kinds.ps ℕ
 μ-values κs a = 8 * a .1 .1 .1 .1 .1 .1 .1 .1 .1 .1 .1 .0 + 5
@@ -80,7 +80,7 @@ abbrev μ-value : Measures 5 value-kinds.ps ℕ
 μ-value κs a = 8 * a .1 .1 .1 .1 .1 .1 .1 .1 .1 .1 .0 + 2
 
 abbrev μ-wire : Measures 5 wire-kinds.ps ℕ
-μ-wire κs a = 8 * a .1 .1 .1 .1 .1 .1 .1 .1 .1 .1 .0 + 1
+μ-wire κs a = 8 * a .1 .1 .1 .1 .1 .1 .1 .1 .1 .1 .1 .0 + 1
 
 abbrev array-at : ℕ → In 5 array-kinds.ps
 array-at t = and 5 array-kinds.ps (is 5 array-kinds.ps μ-array t) array.Pre
@@ -766,7 +766,7 @@ wire-returns-2 t c =
     let c6 = c4 .before .before in
     let c12 = c6 .before .before .before .before .before .before in
     let a = c12 .args in
-    wire-boolean (a .how) (now (a .table)) (now (a .pool)) (now (a .rows)) (now (a .out)) (now (a .work)) (a .i) (a .core) (a .node) (c12 .pre .1 .0) (sym (c6 .kind-at .ensures) ∙ c4 .if2 .taken) (c2 .boolean .ensures)
+    wire-boolean (a .how) (now (a .table)) (now (a .pool)) (now (a .rows)) (now (a .out)) (now (a .work)) (a .i) (a .core) (a .node) (c12 .pre .1 .0) (a .top) (sym (c6 .kind-at .ensures) ∙ c4 .if2 .taken) (c2 .boolean .ensures)
 
 wire-record-requires : (t : ℕ) → wire-lts.Need-record-requires (wire-uses t) (wire-at t) wire.Post
 wire-record-requires t c κs =
@@ -809,7 +809,7 @@ wire-returns-4 t c =
     let c10 = c9 .before in
     let c16 = c10 .before .before .before .before .before .before in
     let a = c16 .args in
-    wire-array (a .how) (now (a .table)) (now (a .pool)) (now (a .rows)) (now (a .out)) (now (a .work)) (a .i) (a .core) (a .node) (c16 .pre .1 .0) (array-left (now (a .table)) (now (a .work)) (a .node) (a .left) (c16 .pre .1 .2) (c16 .pre .1 .1) (λ q. c9 .if1 .left (c10 .kind-at .ensures ∙ q)) (λ q. c8 .if2 .left (c10 .kind-at .ensures ∙ q)) (λ q. c7 .if3 .left (c10 .kind-at .ensures ∙ q))) (c4 .array .ensures)
+    wire-array (a .how) (now (a .table)) (now (a .pool)) (now (a .rows)) (now (a .out)) (now (a .work)) (a .i) (a .core) (a .node) (c16 .pre .1 .0) (a .top) (array-left (now (a .table)) (now (a .work)) (a .node) (a .left) (c16 .pre .1 .2) (c16 .pre .1 .1) (λ q. c9 .if1 .left (c10 .kind-at .ensures ∙ q)) (λ q. c8 .if2 .left (c10 .kind-at .ensures ∙ q)) (λ q. c7 .if3 .left (c10 .kind-at .ensures ∙ q))) (c4 .array .ensures)
 
 pub +array+fields+record+value+value-in-place+values+wire-spec : {M : Type 1} → statement M
 +array+fields+record+value+value-in-place+values+wire-spec =

@@ -40,7 +40,7 @@ returns c =
     let c10 = c9 .before in
     let c16 = c10 .before .before .before .before .before .before in
     let a = c16 .args in
-    block-writes (a .how) (now (a .table)) (now (a .pool)) (now (a .rows)) (now (a .out)) (now (a .work)) (a .i) (a .core) (a .node) (c16 .pre .0) (c16 .pre .1) (c10 .argument-at .ensures .0) (c9 .leaf-at .ensures) (ap (λ b. b && a .how .numbers) (c8 .deduplicates .ensures)) (c4 .leaf .ensures)
+    block-writes (a .how) (now (a .table)) (now (a .pool)) (now (a .rows)) (now (a .out)) (now (a .work)) (a .i) (a .core) (a .node) (c16 .pre .0) (a .top) (c16 .pre .1) (c10 .argument-at .ensures .0) (c9 .leaf-at .ensures) (ap (λ b. b && a .how .numbers) (c8 .deduplicates .ensures)) (c4 .leaf .ensures)
 
 pub block-spec : {M : Type 1} → statement M
 block-spec =

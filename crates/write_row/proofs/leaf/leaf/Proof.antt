@@ -42,7 +42,7 @@ returns c =
     let c7 = c4 .before .before .before in
     let c13 = c7 .before .before .before .before .before .before in
     let a = c13 .args in
-    held-value (a .i) (a .labelled) (c7 .enum-told .given .1) (c4 .varint .ensures)
+    held-value (a .node) (a .i) (a .labelled) (c7 .enum-told .given .1) (c4 .varint .ensures)
 
 same-length-3 : tie.Need-same-length-3
 same-length-3 c = search needs
@@ -57,7 +57,7 @@ returns-2 c =
     let c7 = c4 .before .before .before in
     let c13 = c7 .before .before .before .before .before .before in
     let a = c13 .args in
-    held-value (a .i) (a .labelled) (c7 .enum-told2 .given .1) (c4 .float64 .ensures)
+    held-value (a .node) (a .i) (a .labelled) (c7 .enum-told2 .given .1) (c4 .float64 .ensures)
 
 same-length-5 : tie.Need-same-length-5
 same-length-5 c = search needs
@@ -72,7 +72,7 @@ returns-3 c =
     let c8 = c4 .before .before .before .before in
     let c14 = c8 .before .before .before .before .before .before in
     let a = c14 .args in
-    held-value (a .i) (a .labelled) (c8 .leaf .given .1) (c4 .fixed .ensures)
+    held-value (a .node) (a .i) (a .labelled) (c8 .leaf .given .1) (c4 .fixed .ensures)
 
 same-length-7 : tie.Need-same-length-7
 same-length-7 c = search needs
@@ -87,7 +87,7 @@ returns-4 c =
     let c8 = c5 .before .before .before in
     let c13 = c8 .before .before .before .before .before in
     let a = c13 .args in
-    held-text (a .i) (a .labelled) (a .leaf) (c8 .match .keys4) (c5 .is-judged .ensures) (c4 .text .ensures)
+    held-text (a .node) (a .i) (a .labelled) (a .leaf) (c8 .match .keys4) (c5 .is-judged .ensures) (c4 .text .ensures)
 
 pub leaf-spec : {M : Type 1} → statement M
 leaf-spec =

@@ -15,8 +15,8 @@ use Rattle.write_row.proofs.leaf.text.Tie as tie
 kind-of-requires : tie.Need-kind-of-requires
 kind-of-requires c κs = search needs
 
-place-at-requires : tie.Need-place-at-requires
-place-at-requires c κs = text-place (c .before .before .before .before .before .args .judged) (c .kind-of .ensures)
+place-under-requires : tie.Need-place-under-requires
+place-under-requires c κs = text-place (c .before .before .before .before .before .args .judged) (c .kind-of .ensures)
 
 enum-known-start : tie.Need-enum-known-start
 enum-known-start c = search needs
@@ -30,7 +30,7 @@ returns c =
     let c3 = c2 .before in
     let c8 = c3 .before .before .before .before .before in
     let a = c8 .args in
-    text-none (c8 .pre .0) (a .key) (a .judged) (told place (rw (c3 .kind-of .ensures) at (c2 .place-at .ensures .0)) (c .enum-told .given .1))
+    text-none (c8 .pre .0) (a .key) (a .node) (a .judged) (told place (rw (c3 .kind-of .ensures) at (c2 .place-under .ensures .0)) (c .enum-told .given .1))
 
 add-passes : tie.Need-add-passes
 add-passes c =
@@ -38,7 +38,7 @@ add-passes c =
     let c4 = c2 .before .before in
     let c10 = c4 .before .before .before .before .before .before in
     let a = c10 .args in
-    let l : _ ≤ _ = (subst (λ x. Inside (length (now (a .pool))) x) (c2 .start .given .1) (c4 .place-at .ensures .1)) in
+    let l : _ ≤ _ = (subst (λ x. Inside (length (now (a .pool))) x) (c2 .start .given .1) (c4 .place-under .ensures .1)) in
     omega arith
 
 passes-requires : tie.Need-passes-requires
@@ -47,7 +47,7 @@ passes-requires c κs =
     let c4 = c2 .before .before in
     let c10 = c4 .before .before .before .before .before .before in
     let a = c10 .args in
-    (subst (λ x. Inside (length (now (a .pool))) x) (c2 .start .given .1) (c4 .place-at .ensures .1))
+    (subst (λ x. Inside (length (now (a .pool))) x) (c2 .start .given .1) (c4 .place-under .ensures .1))
 
 returns-2 : tie.Need-returns-2
 returns-2 c =
@@ -57,7 +57,7 @@ returns-2 c =
     let c7 = c6 .before in
     let c12 = c7 .before .before .before .before .before in
     let a = c12 .args in
-    text-28 (c12 .pre .0) (a .key) (a .judged) _ (subst (λ x. Inside (length (now (a .pool))) x) (c4 .start .given .1) (c6 .place-at .ensures .1)) (told place (rw (c7 .kind-of .ensures) at (c6 .place-at .ensures .0)) (c4 .start .given .1)) (part-text (a .how .put || not (a .judged)) (now (a .pool)) (c4 .start .given .0 .0) (c4 .start .given .0 .1 .0) (c1 .passes .ensures) ∙ not-true _ (c .if1 .taken))
+    text-28 (c12 .pre .0) (a .key) (a .node) (a .judged) _ (subst (λ x. Inside (length (now (a .pool))) x) (c4 .start .given .1) (c6 .place-under .ensures .1)) (told place (rw (c7 .kind-of .ensures) at (c6 .place-under .ensures .0)) (c4 .start .given .1)) (part-text (a .how .put || not (a .judged)) (now (a .pool)) (c4 .start .given .0 .0) (c4 .start .given .0 .1 .0) (c1 .passes .ensures) ∙ not-true _ (c .if1 .taken))
 
 emit-text-requires : tie.Need-emit-text-requires
 emit-text-requires c κs =
@@ -65,7 +65,7 @@ emit-text-requires c κs =
     let c8 = c6 .before .before in
     let c14 = c8 .before .before .before .before .before .before in
     let a = c14 .args in
-    (c14 .pre .0 .ready, near (c14 .pre .0), c14 .pre .1, (subst (λ x. Inside (length (now (a .pool))) x) (c6 .start .given .1) (c8 .place-at .ensures .1)))
+    (c14 .pre .0 .ready, near (c14 .pre .0), c14 .pre .1, (subst (λ x. Inside (length (now (a .pool))) x) (c6 .start .given .1) (c8 .place-under .ensures .1)))
 
 next-requires : tie.Need-next-requires
 next-requires c κs = search needs
@@ -86,14 +86,14 @@ returns-3 c =
     let c15 = c14 .before in
     let c20 = c15 .before .before .before .before .before in
     let a = c20 .args in
-    text-some (c20 .pre .0) (a .key) (a .judged) _ (subst (λ x. Inside (length (now (a .pool))) x) (c12 .start .given .1) (c14 .place-at .ensures .1)) (told place (rw (c15 .kind-of .ensures) at (c14 .place-at .ensures .0)) (c12 .start .given .1)) (c5 .emit-text .ensures) (c .next .ensures) (part-text (a .how .put || not (a .judged)) (now (a .pool)) (c12 .start .given .0 .0) (c12 .start .given .0 .1 .0) (c9 .passes .ensures) ∙ not-false _ (c8 .if1 .left))
+    text-some (c20 .pre .0) (a .key) (a .node) (a .judged) _ (subst (λ x. Inside (length (now (a .pool))) x) (c12 .start .given .1) (c14 .place-under .ensures .1)) (told place (rw (c15 .kind-of .ensures) at (c14 .place-under .ensures .0)) (c12 .start .given .1)) (c5 .emit-text .ensures) (c .next .ensures) (part-text (a .how .put || not (a .judged)) (now (a .pool)) (c12 .start .given .0 .0) (c12 .start .given .0 .1 .0) (c9 .passes .ensures) ∙ not-false _ (c8 .if1 .left))
 
 pub text-spec : {M : Type 1} → statement M
 text-spec =
     tie.close
     (tie.spec
     kind-of-requires
-    place-at-requires
+    place-under-requires
     enum-known-start
     enum-told
     returns

@@ -21,7 +21,7 @@ returns c =
     let c2 = c .before .before in
     let c7 = c2 .before .before .before .before .before in
     let a = c7 .args in
-    varint-none (c7 .pre .0) (a .key) (a .labelled) (told word (c2 .word-at .ensures .0) (c .enum-told .given .1))
+    varint-none (c7 .pre .0) (a .key) (a .node) (a .labelled) (told word (c2 .word-at .ensures .0) (c .enum-told .given .1))
 
 emit-varint-requires : tie.Need-emit-varint-requires
 emit-varint-requires c κs =
@@ -46,7 +46,7 @@ returns-2 c =
     let c11 = c9 .before .before in
     let c16 = c11 .before .before .before .before .before in
     let a = c16 .args in
-    varint-some (c16 .pre .0) (a .key) (a .labelled) (told word (c11 .word-at .ensures .0) (c9 .a .given .1)) (subst (λ x. Small x) (c9 .a .given .1) (c11 .word-at .ensures .1)) (c5 .emit-varint .ensures) (c .next .ensures)
+    varint-some (c16 .pre .0) (a .key) (a .node) (a .labelled) (told word (c11 .word-at .ensures .0) (c9 .a .given .1)) (subst (λ x. Small x) (c9 .a .given .1) (c11 .word-at .ensures .1)) (c5 .emit-varint .ensures) (c .next .ensures)
 
 pub varint-spec : {M : Type 1} → statement M
 varint-spec =

@@ -26,7 +26,7 @@ returns c =
     let c3 = c2 .before in
     let c8 = c3 .before .before .before .before .before in
     let a = c8 .args in
-    own-none (a .put) (now (a .table)) (now (a .pool)) (now (a .rows)) (now (a .out)) (a .core) (a .i) (a .node) (a .array) (a .labelled) (c8 .pre .3) (c3 .if1 .taken) (told word (c2 .word-at .ensures .0) (c .enum-told .given .1))
+    own-none (a .put) (now (a .table)) (now (a .pool)) (now (a .rows)) (now (a .out)) (a .core) (a .i) (a .node) (a .top) (a .array) (a .labelled) (c8 .pre .3) (c3 .if1 .taken) (told word (c2 .word-at .ensures .0) (c .enum-told .given .1))
 
 integer-of-requires : tie.Need-integer-of-requires
 integer-of-requires c κs = search needs
@@ -58,7 +58,7 @@ returns-2 c =
     let c12 = c11 .before in
     let c17 = c12 .before .before .before .before .before in
     let a = c17 .args in
-    own-array-not (a .put) (now (a .table)) (now (a .pool)) (now (a .rows)) (now (a .out)) (a .core) (a .i) (a .node) (a .array) (a .labelled) (c17 .pre .3) (c12 .if1 .taken) (told word (c11 .word-at .ensures .0) (c9 .count .given .1)) (subst (λ x. Small x) (c9 .count .given .1) (c11 .word-at .ensures .1)) (marks-as (toZ-ofZ w64 _ (record { sfits = c6 .integer-of .ok }) ∙ c6 .integer-of .ensures) (c5 .mark .ensures)) (c1 .enum-told2 .given .1) (c .again .ensures)
+    own-array-not (a .put) (now (a .table)) (now (a .pool)) (now (a .rows)) (now (a .out)) (a .core) (a .i) (a .node) (a .top) (a .array) (a .labelled) (c17 .pre .3) (c12 .if1 .taken) (told word (c11 .word-at .ensures .0) (c9 .count .given .1)) (subst (λ x. Small x) (c9 .count .given .1) (c11 .word-at .ensures .1)) (marks-as (toZ-ofZ w64 _ (record { sfits = c6 .integer-of .ok }) ∙ c6 .integer-of .ensures) (c5 .mark .ensures)) (c1 .enum-told2 .given .1) (c .again .ensures)
 
 same-length-2 : tie.Need-same-length-2
 same-length-2 c = search needs
@@ -73,7 +73,7 @@ returns-3 c =
     let c12 = c11 .before in
     let c17 = c12 .before .before .before .before .before in
     let a = c17 .args in
-    own-array (a .put) (now (a .table)) (now (a .pool)) (now (a .rows)) (now (a .out)) (a .core) (a .i) (a .node) (a .array) (a .labelled) (c17 .pre .3) (c12 .if1 .taken) (told word (c11 .word-at .ensures .0) (c9 .count .given .1)) (subst (λ x. Small x) (c9 .count .given .1) (c11 .word-at .ensures .1)) (marks-as (toZ-ofZ w64 _ (record { sfits = c6 .integer-of .ok }) ∙ c6 .integer-of .ensures) (c5 .mark .ensures)) (c1 .marked .given .1)
+    own-array (a .put) (now (a .table)) (now (a .pool)) (now (a .rows)) (now (a .out)) (a .core) (a .i) (a .node) (a .top) (a .array) (a .labelled) (c17 .pre .3) (c12 .if1 .taken) (told word (c11 .word-at .ensures .0) (c9 .count .given .1)) (subst (λ x. Small x) (c9 .count .given .1) (c11 .word-at .ensures .1)) (marks-as (toZ-ofZ w64 _ (record { sfits = c6 .integer-of .ok }) ∙ c6 .integer-of .ensures) (c5 .mark .ensures)) (c1 .marked .given .1)
 
 argument-at-requires : tie.Need-argument-at-requires
 argument-at-requires c κs = c .before .before .before .before .before .pre .2
@@ -103,7 +103,7 @@ returns-4 c =
     let c8 = c7 .before in
     let c13 = c8 .before .before .before .before .before in
     let a = c13 .args in
-    own-record-not (a .put) (now (a .table)) (now (a .pool)) (now (a .rows)) (now (a .out)) (a .core) (a .i) (a .node) (a .array) (a .labelled) (c13 .pre .3) (c8 .if1 .left) (c7 .argument-at .ensures .0) (c5 .«record» .ensures) (c1 .enum-told3 .given .1) (c .again2 .ensures)
+    own-record-not (a .put) (now (a .table)) (now (a .pool)) (now (a .rows)) (now (a .out)) (a .core) (a .i) (a .node) (a .top) (a .array) (a .labelled) (c13 .pre .3) (c8 .if1 .left) (c7 .argument-at .ensures .0) (c5 .«record» .ensures) (c1 .enum-told3 .given .1) (c .again2 .ensures)
 
 same-length-4 : tie.Need-same-length-4
 same-length-4 c = search needs
@@ -116,7 +116,7 @@ returns-5 c =
     let c8 = c7 .before in
     let c13 = c8 .before .before .before .before .before in
     let a = c13 .args in
-    own-record (a .put) (now (a .table)) (now (a .pool)) (now (a .rows)) (now (a .out)) (a .core) (a .i) (a .node) (a .array) (a .labelled) (c13 .pre .3) (c8 .if1 .left) (c7 .argument-at .ensures .0) (c5 .«record» .ensures) (c1 .r .given .1)
+    own-record (a .put) (now (a .table)) (now (a .pool)) (now (a .rows)) (now (a .out)) (a .core) (a .i) (a .node) (a .top) (a .array) (a .labelled) (c13 .pre .3) (c8 .if1 .left) (c7 .argument-at .ensures .0) (c5 .«record» .ensures) (c1 .r .given .1)
 
 pub own-row-spec : {M : Type 1} → statement M
 own-row-spec =
