@@ -50,6 +50,7 @@ static size_t ok(const char *what, argo_answer answer)
 
 static void write_night(void)
 {
+    static const uint64_t columns[] = {2, 4, 6}; /* the top node of each field, see the table */
     static uint64_t given[ARGO_ROW_WORDS * ROWS] = {ARGO_ARRAY, JOBS};
     static uint8_t pool[256];
     size_t pooled = 0, words = ARGO_ROW_WORDS;
@@ -57,10 +58,12 @@ static void write_night(void)
         const char *texts[] = {night[i].name, night[i].status, night[i].note};
         given[words] = ARGO_RECORD;
         given[words + 1] = 3;
+        given[words + ARGO_ROW_NODE] = 1;
         words += ARGO_ROW_WORDS;
         for (int f = 0; f < 3; f++, words += ARGO_ROW_WORDS) {
+            given[words + ARGO_ROW_NODE] = columns[f];
             if (!texts[f])
-                continue; /* three zeros are a null */
+                continue; /* zeros before the node are a null */
             given[words] = ARGO_STRING;
             given[words + 1] = pooled;
             given[words + 2] = strlen(texts[f]);

@@ -27,40 +27,45 @@ static const job night[] = {
 
 enum { JOBS = sizeof night / sizeof *night };
 
+/* The columns of the table: each row is given the number of the node that it stands under. That of a field is its top
+ * node, whether it is there, null or absent. */
+enum { NIGHT = 0, JOB = 1, NAME = 2, STATUS = 4, NOTE = 6, SECONDS = 9, DIGEST = 11 };
+
 /* The tree: rows, parents first, and the pool that the places of texts and digests are counted in. */
 static uint64_t rows[ARGO_ROW_WORDS * (1 + 6 * JOBS)];
 static size_t words;
 static uint8_t pool[1024];
 static size_t pooled;
 
-static void row(uint64_t kind, uint64_t a, uint64_t b)
+static void row(uint64_t node, uint64_t kind, uint64_t a, uint64_t b)
 {
     rows[words++] = kind;
     rows[words++] = a;
     rows[words++] = b;
+    rows[words++] = node;
 }
 
-static void place(uint64_t kind, const void *bytes, size_t len)
+static void place(uint64_t node, uint64_t kind, const void *bytes, size_t len)
 {
-    row(kind, pooled, len);
+    row(node, kind, pooled, len);
     memcpy(pool + pooled, bytes, len);
     pooled += len;
 }
 
 static void job_rows(const job *j)
 {
-    row(ARGO_RECORD, 5, 0);
-    place(ARGO_STRING, j->name, strlen(j->name));
-    place(ARGO_STRING, j->status, strlen(j->status));
+    row(JOB, ARGO_RECORD, 5, 0);
+    place(NAME, ARGO_STRING, j->name, strlen(j->name));
+    place(STATUS, ARGO_STRING, j->status, strlen(j->status));
     if (j->note)
-        place(ARGO_STRING, j->note, strlen(j->note));
+        place(NOTE, ARGO_STRING, j->note, strlen(j->note));
     else
-        row(ARGO_NULL, 0, 0);
+        row(NOTE, ARGO_NULL, 0, 0);
     if (j->seconds != UNKNOWN)
-        row(ARGO_INTEGER, (uint64_t)j->seconds, 0);
+        row(SECONDS, ARGO_INTEGER, (uint64_t)j->seconds, 0);
     else
-        row(ARGO_ABSENT, 0, 0);
-    place(ARGO_FIXED, j->digest, sizeof j->digest);
+        row(SECONDS, ARGO_ABSENT, 0, 0);
+    place(DIGEST, ARGO_FIXED, j->digest, sizeof j->digest);
 }
 
 int main(int argc, char **argv)
@@ -75,7 +80,7 @@ int main(int argc, char **argv)
     }
     size_t table_len = fread(table, 1, sizeof table, in);
     fclose(in);
-    row(ARGO_ARRAY, JOBS, 0);
+    row(NIGHT, ARGO_ARRAY, JOBS, 0);
     for (size_t i = 0; i < JOBS; i++)
         job_rows(&night[i]);
     argo_answer written = argo_write(table, table_len, 0, rows, words, pool, pooled, message, sizeof message, work,

@@ -16,8 +16,8 @@
  *   need not be initialised. More than enough may be lent, and costs the time to zero it.
  * - A buffer that is written to must not overlap another buffer of the same call. Those that are only read may.
  *
- *   Enough for every call: ARGO_WORK words of work; ARGO_ROW_WORDS * ARGO_ROWS words of rows to read into; 65,536 bytes
- *   of out to write to. Less of rows or out is no fault, as long as the answer fits.
+ *   Enough for every call: ARGO_WORK words of work, 64 KiB; ARGO_ROW_WORDS * ARGO_ROWS words of rows to read into, 256
+ *   KiB; 65,536 bytes of out to write to. Less of rows or out is no fault, as long as the answer fits.
  *
  * TABLES
  *   A table has 7 + 4n bytes: the letters AWT, the version (1) and n (1 to 1,024) in 16 bits each, then n nodes:
@@ -29,6 +29,14 @@
  *   length and deduplicate.
  *   A row stands for each RECORD, ARRAY, BOOLEAN and BLOCK that the tree has; where a NULLABLE is null or an omittable
  *   field is absent, a row of that kind stands for all below.
+ *
+ * NODES
+ *   Nodes are numbered from 0, the root. The last word of a row is the node that it stands under, the topmost where a
+ *   NULLABLE or BLOCK holds the value: so it is 0 for the root, a field's top node for a field, be it null, absent or
+ *   there, and the array's child for each of its entries. It tells a table's columns apart: two rows are of one column
+ *   just if their nodes are equal, and from a row to its column no other row is looked at (examples/column.c).
+ *   Reading fills it in. Writing requires it, though it follows from the table and from the rows before: rows under
+ *   another node are refused. Looking at a row does not know the table, and wants the node below ARGO_NODES only.
  *
  * TEXT
  *   A STRING is UTF-8 by RFC 3629: 00 to 7F alone; C2 to DF and one byte 80 to BF; E0 to EF and two; F0 to F4 and
@@ -66,14 +74,24 @@
 extern "C" {
 #endif
 
-/* Words of 32 bits that a call wants as work, at least, and rows that a message has at most. */
+/* The version of this header and of the library that belongs to it. While the first number is 0, another second one may
+ * change the layout of rows or of a struct below: in 0.1 a row had three words and argo_seen no node. */
+#define ARGO_VERSION "0.2.0"
+#define ARGO_VERSION_MAJOR 0
+#define ARGO_VERSION_MINOR 2
+#define ARGO_VERSION_PATCH 0
+
+/* Words of 32 bits that a call wants as work, at least; rows that a message and nodes that a table has at most. */
 #define ARGO_WORK 16384
 #define ARGO_ROWS 8192
+#define ARGO_NODES 1024
 
-/* A row is three words of 64 bits: its kind, a and b. Words that its kind does not use are 0. Rows stand parents first:
- * after a record or an array come its fields or entries in order, each with all below it. Row 0 is the root. */
+/* A row is four words of 64 bits: its kind, a, b and its node (see NODES). Of a and b, what its kind does not use is 0.
+ * Rows stand parents first: after a record or an array come its fields or entries in order, each with all below it. Row
+ * 0 is the root. */
 enum {
-    ARGO_ROW_WORDS = 3,
+    ARGO_ROW_WORDS = 4,
+    ARGO_ROW_NODE = 3, /* which of them is the node: rows[ARGO_ROW_WORDS * row + ARGO_ROW_NODE] */
 
     ARGO_NULL = 0,
     ARGO_ABSENT = 1,
@@ -115,12 +133,12 @@ enum {
 
     ARGO_MODES = 40,          /* the modes to write in are others than 0, 2 and 5 */
     ARGO_ROWS_SIZE = 41,      /* the rows are not whole or over ARGO_ROWS, or the pool has over 65,536 bytes */
-    ARGO_UNFIT = 42,          /* a row that is bad, does not fit the table or is left over, or none where one must be; */
-                              /* second: the row, or their count */
+    ARGO_UNFIT = 42,          /* a row that is bad, does not fit the table, has another node or is left over, or none */
+                              /* where one must be; second: the row, or their count */
     ARGO_NO_ROOM = 43,        /* the message is longer than out, or than 65,536 bytes */
 
     ARGO_NO_ROW = 50,         /* the row number is beyond the rows */
-    ARGO_BAD_ROW = 51         /* the row's kind or words, or its place is outside of the bytes */
+    ARGO_BAD_ROW = 51         /* the row's kind or words, a node not below ARGO_NODES, a place outside of the bytes */
 };
 
 typedef struct {
@@ -147,23 +165,23 @@ enum {
 
 /* Writes the tree of the rows under a table as a message at the front of out, in these modes; rows_len is a count of
  * words, and places are counted in the pool, where they may overlap, repeat and leave gaps. Answers the message's
- * length in bytes, 1 to 65,536. Rows that were read are written with their message as the pool. The table is checked
- * first, in each call.
+ * length in bytes, 1 to 65,536. Rows that were read are written with their message as the pool. Each row must have its
+ * node: see NODES, and examples/write.c for rows that are made by hand. The table is checked first, in each call.
  * Refusals: those of argo_check, ARGO_TEXT, ARGO_MANY_LITERALS, ARGO_MODES to ARGO_NO_ROOM. */
 argo_answer argo_write(const uint8_t *table, size_t table_len, uint64_t modes, const uint64_t *rows, size_t rows_len,
                        const uint8_t *pool, size_t pool_len, uint8_t *out, size_t out_len, uint32_t *work,
                        size_t work_len);
 
-/* A row that was looked at: 0 or a refusal's number, and 0; the row's words; and the float of a float's row, which is 0
- * for any other. After a refusal all but the number is 0. A NaN comes as some NaN; its bits are in a. */
+/* A row that was looked at: 0 or a refusal's number, and 0; the row's four words; and the float of a float's row, which
+ * is 0 for any other. After a refusal all but the number is 0. A NaN comes as some NaN; its bits are in a. */
 typedef struct {
-    uint64_t number, second, kind, a, b;
+    uint64_t number, second, kind, a, b, node;
     double value;
 } argo_seen;
 
 /* Looks at row number index, from 0, whose place, if it has one, must be inside of the bytes: those of the message or
- * the pool. rows_len is a count of words, and words after the last whole row are no row. A row that argo_read made is
- * never refused with its own message.
+ * the pool. Its node must be below ARGO_NODES; whether it is the right one is not known here. rows_len is a count of
+ * words, and words after the last whole row are no row. A row that argo_read made is never refused with its own message.
  * Refusals: ARGO_NO_ROW, ARGO_BAD_ROW. */
 argo_seen argo_look(const uint64_t *rows, size_t rows_len, const uint8_t *bytes, size_t bytes_len, size_t index);
 
@@ -173,7 +191,7 @@ typedef struct {
 
 /* Where in the bytes the part of a string, bytes or fixed row stands, always inside of them: start + len is at most
  * bytes_len. It is never refused; it is the empty part at 0 if the row is not there, is none of these or points
- * outside. */
+ * outside. The node is not looked at. */
 argo_place argo_part(const uint64_t *rows, size_t rows_len, const uint8_t *bytes, size_t bytes_len, size_t index);
 
 #ifdef __cplusplus

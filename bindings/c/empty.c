@@ -11,8 +11,8 @@
 /* An array of records without fields, and two of them. */
 static const uint8_t table[] = {'A', 'W', 'T', 1, 0, 2, 0, 8, 0, 0, 0, 7, 0, 0, 0};
 static const uint8_t message[] = {0, 2, 4};
-static const uint64_t two[] = {ARGO_ARRAY, 2, 0, ARGO_RECORD, 0, 0, ARGO_RECORD, 0, 0};
-static const uint64_t text[] = {ARGO_STRING, 0, 0};
+static const uint64_t two[] = {ARGO_ARRAY, 2, 0, 0, ARGO_RECORD, 0, 0, 1, ARGO_RECORD, 0, 0, 1};
+static const uint64_t text[] = {ARGO_STRING, 0, 0, 0};
 
 enum { WORDS = sizeof two / sizeof *two };
 
@@ -70,6 +70,7 @@ int main(void)
     try_write(NULL, NULL, NULL, NULL, ARGO_WORK_SHORT);
 
     expect("argo_look", argo_look(two, WORDS, NULL, 0, 1).kind, ARGO_RECORD);
+    expect("argo_look", argo_look(two, WORDS, NULL, 0, 2).node, 1);
     expect("argo_look", argo_look(text, ARGO_ROW_WORDS, NULL, 0, 0).kind, ARGO_STRING);
     expect("argo_look", argo_look(NULL, 0, NULL, 0, 0).number, ARGO_NO_ROW);
     expect("argo_part", argo_part(text, ARGO_ROW_WORDS, NULL, 0, 0).len, 0);

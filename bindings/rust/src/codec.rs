@@ -2,10 +2,11 @@
 
 use crate::ffi;
 use crate::modes::Modes;
+use crate::nodes::Shapes;
 use crate::refusal::{Call, Refusal};
 use crate::rows::Rows;
 use crate::tree::Tree;
-use crate::{MAX_BYTES, MAX_ROWS};
+use crate::{MAX_BYTES, MAX_ROWS, ROW_WORDS};
 
 /// Words that a call wants as work.
 const WORK: usize = 16_384;
@@ -27,6 +28,7 @@ fn counted(call: Call, answer: ffi::Answer) -> Result<usize, Refusal> {
 pub struct Table {
     bytes: Box<[u8]>,
     nodes: usize,
+    shapes: Shapes,
 }
 
 impl Table {
@@ -34,12 +36,22 @@ impl Table {
     pub fn new(bytes: impl Into<Box<[u8]>>) -> Result<Table, Refusal> {
         let bytes = bytes.into();
         let nodes = counted(Call::Check, ffi::check(&bytes, &mut work()))?;
-        Ok(Table { bytes, nodes })
+        let shapes = Shapes::of(&bytes);
+        Ok(Table {
+            bytes,
+            nodes,
+            shapes,
+        })
     }
 
     /// How many nodes it has.
     pub fn nodes(&self) -> usize {
         self.nodes
+    }
+
+    /// What stands at each node.
+    pub(crate) fn shapes(&self) -> &Shapes {
+        &self.shapes
     }
 
     /// The bytes of the file.
@@ -49,7 +61,7 @@ impl Table {
 
     /// Reads a message, with buffers of its own; for many messages, [`Codec::read`] has them once.
     pub fn read<'m>(&self, message: &'m [u8]) -> Result<Rows<'static, 'm>, Refusal> {
-        let mut rows = vec![0; 3 * MAX_ROWS];
+        let mut rows = vec![0; ROW_WORDS * MAX_ROWS];
         let judged = read(self, message, &mut rows, &mut work())?;
         Ok(Rows::new(judged.into_owned()))
     }
@@ -57,17 +69,20 @@ impl Table {
     /// Writes a tree, with buffers of its own; for many trees, [`Codec::write`] has them once.
     pub fn write(&self, modes: Modes, tree: &Tree) -> Result<Vec<u8>, Refusal> {
         let mut out = vec![0; MAX_BYTES];
-        let length = write(self, modes, tree, &mut out, &mut work())?;
+        let length = write(self, modes, tree, &mut Vec::new(), &mut out, &mut work())?;
         out.truncate(length);
         Ok(out)
     }
 }
 
-/// The buffers that reading and writing are lent, 320 KiB, allocated once. A thread has its own.
+/// The buffers that reading and writing are lent, 384 KiB, allocated once, and the rows of the largest tree that was
+/// written. A thread has its own.
 #[derive(Debug)]
 pub struct Codec {
     work: Box<[u32]>,
     rows: Box<[u64]>,
+    /// The rows of a tree that is written, with their nodes.
+    given: Vec<u64>,
     out: Box<[u8]>,
 }
 
@@ -82,7 +97,8 @@ impl Codec {
     pub fn with_rows(rows: usize) -> Codec {
         Codec {
             work: work(),
-            rows: vec![0; 3 * rows.min(MAX_ROWS)].into(),
+            rows: vec![0; ROW_WORDS * rows.min(MAX_ROWS)].into(),
+            given: Vec::new(),
             out: vec![0; MAX_BYTES].into(),
         }
     }
@@ -99,8 +115,11 @@ impl Codec {
 
     /// Writes a tree. The message stays in the codec until the next call.
     pub fn write(&mut self, table: &Table, modes: Modes, tree: &Tree) -> Result<&[u8], Refusal> {
-        let length = write(table, modes, tree, &mut self.out, &mut self.work)?;
-        Ok(&self.out[..length])
+        let Codec {
+            work, given, out, ..
+        } = self;
+        let length = write(table, modes, tree, given, out, work)?;
+        Ok(&out[..length])
     }
 
     /// Writes a tree at the front of `out`, of which the rest is zeroed, and answers the message's length. Refuses with
@@ -112,7 +131,7 @@ impl Codec {
         tree: &Tree,
         out: &mut [u8],
     ) -> Result<usize, Refusal> {
-        write(table, modes, tree, out, &mut self.work)
+        write(table, modes, tree, &mut self.given, out, &mut self.work)
     }
 }
 
@@ -137,17 +156,12 @@ fn write(
     table: &Table,
     modes: Modes,
     tree: &Tree,
+    rows: &mut Vec<u64>,
     out: &mut [u8],
     work: &mut [u32],
 ) -> Result<usize, Refusal> {
-    let answer = ffi::write(
-        &table.bytes,
-        modes.bits(),
-        tree.words(),
-        tree.pool(),
-        out,
-        work,
-    );
+    table.shapes.fill(tree.values(), rows);
+    let answer = ffi::write(&table.bytes, modes.bits(), rows, tree.pool(), out, work);
     counted(Call::Write, answer)
 }
 
@@ -160,14 +174,16 @@ mod tests {
     const TEXT: &[u8] = b"AWT\x01\0\x02\0\x09\x02\0\0\x01\0\0\0";
     const TEXTS: &[u8] = b"AWT\x01\0\x03\0\x08\0\0\0\x09\x02\0\0\x01\0\0\0";
 
-    /// Writes rows, of which the last is a string of these bytes: a tree cannot hold one that is no text.
+    /// Writes rows, of which the last is a string of these bytes under this node: a tree cannot hold one that is no
+    /// text, nor a wrong node.
     fn write_bytes(
         table: &[u8],
-        rows: &[[u64; 3]],
+        rows: &[[u64; 4]],
         bytes: &[u8],
+        node: u64,
         work: &mut [u32],
     ) -> Result<usize, Refusal> {
-        let last = [kind::STRING, 0, bytes.len() as u64];
+        let last = [kind::STRING, 0, bytes.len() as u64, node];
         let rows = [rows.concat(), last.to_vec()].concat();
         let answer = ffi::write(table, 0, &rows, bytes, &mut [0; 64], work);
         counted(Call::Write, answer)
@@ -177,13 +193,13 @@ mod tests {
     #[test]
     fn rows_28() {
         let mut work = work();
-        let array = [[kind::ARRAY, 2, 0], [kind::STRING, 0, 0]];
+        let array = [[kind::ARRAY, 2, 0, 0], [kind::STRING, 0, 0, 1]];
         for lead in 0..=0xff {
             for second in [0x7f, 0x80, 0x8f, 0x90, 0x9f, 0xa0, 0xbf, 0xc0] {
                 for length in 1..=4 {
                     let bytes = &[lead, second, 0xbf, 0x80][..length];
-                    let root = write_bytes(TEXT, &[], bytes, &mut work);
-                    let entry = write_bytes(TEXTS, &array, bytes, &mut work);
+                    let root = write_bytes(TEXT, &[], bytes, 0, &mut work);
+                    let entry = write_bytes(TEXTS, &array, bytes, 1, &mut work);
                     if std::str::from_utf8(bytes).is_ok() {
                         assert!(root.is_ok() && entry.is_ok(), "{bytes:x?}");
                     } else {
@@ -192,6 +208,31 @@ mod tests {
                     }
                 }
             }
+        }
+    }
+
+    /// A wrong node is 42 at its row, also where the text is none; and an earlier row comes first.
+    #[test]
+    fn rows_42_for_the_node() {
+        let mut work = work();
+        let unfit = |row| Err(Refusal::Unfit { row });
+        let array = [kind::ARRAY, 2, 0, 0];
+        let text = [kind::STRING, 0, 0, 1];
+        assert_eq!(write_bytes(TEXT, &[], b"a", 0, &mut work), Ok(5));
+        for node in [1, 2, 1_023, 1_024, 1 << 32, u64::MAX] {
+            for bytes in [&b"a"[..], b"\xff"] {
+                let root = write_bytes(TEXT, &[], bytes, node, &mut work);
+                assert_eq!(root, unfit(0));
+            }
+        }
+        for node in [0, 2, 1_023, 1_024, 1 + (1 << 32), u64::MAX] {
+            let mut write =
+                |rows: &[[u64; 4]], node| write_bytes(TEXTS, rows, b"\xff", node, &mut work);
+            assert_eq!(write(&[array, text], node), unfit(2));
+            let wrong = [kind::STRING, 0, 0, node];
+            assert_eq!(write(&[array, wrong], 1), unfit(1));
+            let wrong = [kind::ARRAY, 2, 0, node.max(1)];
+            assert_eq!(write(&[wrong, text], 1), unfit(0));
         }
     }
 }

@@ -13,6 +13,7 @@
 use std::borrow::Cow;
 
 use crate::value::kind;
+use crate::ROW_WORDS;
 
 /// `argo_answer`: 0 and a count, or a refusal's number and second number.
 #[repr(C)]
@@ -31,6 +32,7 @@ pub struct Seen {
     pub kind: u64,
     pub a: u64,
     pub b: u64,
+    pub node: u64,
     pub value: f64,
 }
 
@@ -115,7 +117,7 @@ pub fn read<'c, 'm>(
         0 => answer.second as usize,
         _ => 0,
     };
-    let words = Cow::Borrowed(&rows[..3 * count]);
+    let words = Cow::Borrowed(&rows[..ROW_WORDS * count]);
     (answer, Judged { words, message })
 }
 
@@ -146,7 +148,7 @@ impl<'m> Judged<'_, 'm> {
 
     /// The text of a string's row; none for any other row.
     pub fn text(&self, row: usize) -> Option<&'m str> {
-        let words = self.words.chunks_exact(3).nth(row)?;
+        let words = self.words.chunks_exact(ROW_WORDS).nth(row)?;
         if words[0] != kind::STRING {
             return None;
         }

@@ -26,6 +26,9 @@
 //! }
 //! assert_eq!(rows.get(3), Some(Value::Str("PASSED")));
 //!
+//! // A row knows its column: the node of the table that it stands under. Here it is the BLOCK, node 1.
+//! assert_eq!(rows.node(3), Some(1));
+//!
 //! // A message that is cut is refused, with the number of the feed's rules.
 //! let cut = codec.read(&table, &message[..18]).unwrap_err();
 //! assert_eq!((cut, cut.number()), (Refusal::Pieces, 22));
@@ -41,6 +44,7 @@ mod codec;
 #[allow(unsafe_code)]
 mod ffi;
 mod modes;
+mod nodes;
 mod refusal;
 mod rows;
 mod tree;
@@ -51,7 +55,13 @@ pub use modes::Modes;
 pub use refusal::Refusal;
 pub use rows::{Children, Iter, Rows};
 pub use tree::Tree;
-pub use value::{look, Value};
+pub use value::{look, Seen, Value};
+
+/// The version of this crate and of the library that belongs to it, as `ARGO_VERSION` in `include/argo.h`.
+pub const VERSION: &str = env!("CARGO_PKG_VERSION");
+
+/// Words of a row: kind, a, b, and the node that it stands under.
+pub const ROW_WORDS: usize = 4;
 
 /// Rows that a message has at most.
 pub const MAX_ROWS: usize = 8_192;

@@ -68,7 +68,8 @@ pub enum Refusal {
     Modes,
     /// 41: over 8,192 rows, or a pool of over 65,536 bytes.
     RowsSize,
-    /// 42: a row is bad, does not fit the table, is left over or missing.
+    /// 42: a row is bad, does not fit the table, is left over or missing. Its node is never wrong here, since it is filled
+    /// in from the table.
     Unfit {
         /// The first such row; their count if one is missing.
         row: usize,
@@ -78,7 +79,7 @@ pub enum Refusal {
 
     /// 50: the row number is beyond the rows.
     NoRow,
-    /// 51: a row's kind or words are bad, or its place is outside of the bytes.
+    /// 51: a row's kind or words are bad, its node is not below 1,024, or its place is outside of the bytes.
     BadRow,
 
     /// A number that none of the above has: of a library that is newer than this wrapper.

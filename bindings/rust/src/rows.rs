@@ -5,6 +5,7 @@ use std::iter::FusedIterator;
 use crate::ffi::Judged;
 use crate::modes::Modes;
 use crate::value::{look, Value};
+use crate::ROW_WORDS;
 
 /// The tree of a message, as rows: parents first, each with all below it before the next. Rows are numbered from 0, the
 /// root.
@@ -25,15 +26,27 @@ impl<'c, 'm> Rows<'c, 'm> {
     /// How many rows there are; a message has one at least.
     #[allow(clippy::len_without_is_empty)]
     pub fn len(&self) -> usize {
-        self.words().len() / 3
+        self.words().len() / ROW_WORDS
     }
 
     /// The value of a row; none beyond the rows. A text is not tested again, since reading has done so.
     pub fn get(&self, row: usize) -> Option<Value<'m>> {
         match self.judged.text(row) {
             Some(text) => Some(Value::Str(text)),
-            None => look(self.words(), self.message(), row).ok(),
+            None => look(self.words(), self.message(), row)
+                .ok()
+                .map(|seen| seen.value),
         }
+    }
+
+    /// The column of a row: the node of the table that it stands under, the topmost where a NULLABLE or BLOCK holds it;
+    /// none beyond the rows. Nodes are numbered from 0, the root. The tree is not walked for it.
+    ///
+    /// A field has its top node, be it null, absent or there; each entry of an array has the array's child. So the cells
+    /// of one column are the rows with equal nodes.
+    pub fn node(&self, row: usize) -> Option<usize> {
+        let words = self.words().chunks_exact(ROW_WORDS).nth(row)?;
+        Some(words[3] as usize)
     }
 
     /// All values, in order.
@@ -68,7 +81,7 @@ impl<'c, 'm> Rows<'c, 'm> {
         Modes::of_header(self.message())
     }
 
-    /// The rows, three words each; places are counted in the message. [`look`] takes them.
+    /// The rows, four words each; places are counted in the message. [`look`] takes them.
     pub fn words(&self) -> &[u64] {
         self.judged.words()
     }

@@ -2,15 +2,19 @@
 
 use std::collections::HashMap;
 
+use crate::codec::Table;
 use crate::value::{kind, Value};
 
 /// A tree to be written: its values are pushed parents first, each with all below it before the next.
 ///
 /// The bytes of strings, bytes and fixed values are copied, equal ones once. So a tree whose message is not too long
 /// never has more bytes here than are allowed.
+///
+/// The node that a value stands under is not pushed: it follows from the table, which comes with the writing.
 #[derive(Clone, Debug, Default)]
 pub struct Tree {
-    words: Vec<u64>,
+    /// Of each value its kind, a and b.
+    values: Vec<[u64; 3]>,
     pool: Vec<u8>,
     starts: HashMap<Box<[u8]>, usize>,
 }
@@ -37,7 +41,7 @@ impl Tree {
             Value::Record(fields) => [kind::RECORD, fields as u64, 0],
             Value::Array(entries) => [kind::ARRAY, entries as u64, 0],
         };
-        self.words.extend(row);
+        self.values.push(row);
         self
     }
 
@@ -56,24 +60,32 @@ impl Tree {
 
     /// How many values there are.
     pub fn len(&self) -> usize {
-        self.words.len() / 3
+        self.values.len()
     }
 
     /// Are there none?
     pub fn is_empty(&self) -> bool {
-        self.words.is_empty()
+        self.values.is_empty()
     }
 
     /// Takes all values out, and keeps the memory for the next tree.
     pub fn clear(&mut self) {
-        self.words.clear();
+        self.values.clear();
         self.pool.clear();
         self.starts.clear();
     }
 
-    /// The rows, three words each.
-    pub fn words(&self) -> &[u64] {
-        &self.words
+    /// The rows of the tree under a table, four words each, as they are written: each has the node that it stands under.
+    /// From the first value on that does not fit, the nodes may be any.
+    pub fn rows(&self, table: &Table) -> Vec<u64> {
+        let mut rows = Vec::new();
+        table.shapes().fill(&self.values, &mut rows);
+        rows
+    }
+
+    /// Of each value its kind, a and b.
+    pub(crate) fn values(&self) -> &[[u64; 3]] {
+        &self.values
     }
 
     /// The bytes that the rows' places are counted in.

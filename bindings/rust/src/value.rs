@@ -82,18 +82,27 @@ pub(crate) mod kind {
     pub const ARRAY: u64 = 10;
 }
 
-/// Looks at one row of three words each, wherever the words come from; its place, if it has one, must be inside of the
-/// bytes. Refuses with [`Refusal::NoRow`] or [`Refusal::BadRow`].
+/// What looking at a row shows.
+#[derive(Clone, Copy, Debug, PartialEq, Eq)]
+pub struct Seen<'m> {
+    /// Its value.
+    pub value: Value<'m>,
+    /// The node of the table that it stands under, the topmost where a NULLABLE or BLOCK holds it: its column.
+    pub node: usize,
+}
+
+/// Looks at one row of four words each, wherever the words come from; its place, if it has one, must be inside of the
+/// bytes, and its node below 1,024. Refuses with [`Refusal::NoRow`] or [`Refusal::BadRow`].
 ///
 /// The library judges texts when it reads and writes, and these rows may come from neither. So the bytes of a string are
 /// tested here, and refused with [`Refusal::Text`] if they are no text. [`Rows::get`](crate::Rows::get) needs no test.
-pub fn look<'m>(words: &[u64], bytes: &'m [u8], index: usize) -> Result<Value<'m>, Refusal> {
+pub fn look<'m>(words: &[u64], bytes: &'m [u8], index: usize) -> Result<Seen<'m>, Refusal> {
     let seen = ffi::look(words, bytes, index);
     if let Some(refusal) = Refusal::of(Call::Look, seen.number, seen.second) {
         return Err(refusal);
     }
     let part = || ffi::part(words, bytes, index);
-    Ok(match seen.kind {
+    let value = match seen.kind {
         kind::NULL => Value::Null,
         kind::ABSENT => Value::Absent,
         kind::FALSE => Value::Bool(false),
@@ -110,5 +119,7 @@ pub fn look<'m>(words: &[u64], bytes: &'m [u8], index: usize) -> Result<Value<'m
         kind::ARRAY => Value::Array(seen.a as usize),
         // The library refuses other kinds itself.
         _ => return Err(Refusal::BadRow),
-    })
+    };
+    let node = seen.node as usize;
+    Ok(Seen { value, node })
 }

@@ -1,4 +1,5 @@
-//! Random trees under random tables: written and read again, and gone over by their children. Random bytes as texts.
+//! Random trees under random tables: written and read again, with the same nodes, and gone over by their children. Random
+//! bytes as texts.
 
 mod common;
 
@@ -154,6 +155,13 @@ fn random_trees_survive() {
         let message = codec.write(&table, modes, &tree).unwrap().to_vec();
         let rows = codec.read(&table, &message).unwrap();
         assert_eq!(rows.iter().collect::<Vec<_>>(), values);
+        // The nodes that were filled in are those that are read.
+        let given = tree.rows(&table);
+        let given: Vec<&[u64]> = given.chunks(argo::ROW_WORDS).collect();
+        assert_eq!(given.len(), rows.len());
+        for (row, given) in given.iter().enumerate() {
+            assert_eq!(rows.node(row), Some(given[3] as usize));
+        }
         assert_eq!((rows.modes(), walk(&rows, 0)), (modes, values.len()));
     }
 }

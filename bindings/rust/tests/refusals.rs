@@ -3,7 +3,7 @@
 
 mod common;
 
-use argo::{look, Codec, Modes, Refusal, Table, Tree, Value};
+use argo::{look, Codec, Modes, Refusal, Seen, Table, Tree, Value};
 use common::*;
 
 fn refused_table(bytes: &[u8]) -> Refusal {
@@ -288,19 +288,29 @@ fn trees_32_and_43() {
 
 #[test]
 fn rows_50_and_51() {
-    let words = [6, 1, 2, 11, 0, 0, 0, 0, 1, 6, 2, 2, 7];
-    let look = |row| look(&words, b"abc", row);
-    assert_eq!(look(0), Ok(Value::Str("bc")));
-    // Another kind, a word that is not used, a place outside, words that are no whole row.
-    assert_eq!([1, 2, 3].map(look), [Err(Refusal::BadRow); 3]);
-    assert_eq!([4, usize::MAX].map(look), [Err(Refusal::NoRow); 2]);
+    let words = [
+        [6, 1, 2, 1_023],
+        [11, 0, 0, 0],
+        [0, 0, 1, 0],
+        [6, 2, 2, 0],
+        [6, 1, 2, 1_024],
+        [0, 0, 0, u64::MAX],
+        [0; 4],
+    ];
+    let words = &words.concat()[..27];
+    let look = |row| look(words, b"abc", row);
+    let value = Value::Str("bc");
+    assert_eq!(look(0), Ok(Seen { value, node: 1_023 }));
+    // Another kind, a word that is not used, a place outside, nodes that no table has; words that are no whole row.
+    assert_eq!([1, 2, 3, 4, 5].map(look), [Err(Refusal::BadRow); 5]);
+    assert_eq!([6, usize::MAX].map(look), [Err(Refusal::NoRow); 2]);
 }
 
 /// No read has judged these rows, so that looking tests their texts, and theirs alone.
 #[test]
 fn looking_28() {
-    let words = [6, 0, 3, 6, 0, 2, 6, 1, 1, 7, 0, 2];
-    let look = |row| look(&words, b"a\xc3\xa4", row);
+    let words = [[6, 0, 3, 0], [6, 0, 2, 0], [6, 1, 1, 0], [7, 0, 2, 0]].concat();
+    let look = |row| look(&words, b"a\xc3\xa4", row).map(|seen| seen.value);
     assert_eq!(look(0), Ok(Value::Str("a\u{e4}")));
     assert_eq!(look(1), Err(Refusal::Text { row: Some(1) }));
     assert_eq!(look(2), Err(Refusal::Text { row: Some(2) }));
@@ -312,7 +322,8 @@ fn looking_28() {
 fn rows_with_bytes_of_another_message_are_tested() {
     let message = one_text(b"ab");
     let rows = texts().read(&message).unwrap();
-    assert_eq!(look(rows.words(), &message, 1), Ok(Value::Str("ab")));
+    let value = Value::Str("ab");
+    assert_eq!(look(rows.words(), &message, 1), Ok(Seen { value, node: 1 }));
     assert_eq!(
         look(rows.words(), &one_text(b"\xc0\xaf"), 1),
         Err(Refusal::Text { row: Some(1) })

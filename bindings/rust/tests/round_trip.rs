@@ -272,7 +272,7 @@ fn a_tree_can_be_used_again() {
     tree.push(Value::Array(1)).push(Value::Str("a"));
     assert_eq!((tree.len(), tree.pool()), (2, &b"a"[..]));
     tree.clear();
-    assert!(tree.is_empty() && tree.pool().is_empty() && tree.words().is_empty());
+    assert!(tree.is_empty() && tree.pool().is_empty() && tree.rows(&texts()).is_empty());
     tree.push(Value::Array(1)).push(Value::Str("ba"));
     let message = texts().write(Modes::NONE, &tree).unwrap();
     assert_eq!(

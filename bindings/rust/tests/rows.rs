@@ -69,3 +69,59 @@ fn the_largest_message_has_8192_rows() {
     assert_eq!(rows.children(0).last(), Some(8_191));
     assert_eq!(rows.message(), message);
 }
+
+/// The night: an array, 0; a record, 1; its fields' top nodes, 2, 4, 6, 9 and 11.
+#[test]
+fn a_row_knows_its_column() {
+    let rows = night().read(NIGHT).unwrap();
+    assert_eq!(rows.node(0), Some(0));
+    for job in rows.children(0) {
+        assert_eq!(rows.node(job), Some(1));
+        let fields: Vec<_> = rows.children(job).map(|row| rows.node(row)).collect();
+        assert_eq!(fields, [2, 4, 6, 9, 11].map(Some));
+    }
+    // The column of row 16, a null note.
+    let column: Vec<_> = (0..rows.len())
+        .filter(|&row| rows.node(row) == rows.node(16))
+        .collect();
+    assert_eq!(column, [4, 10, 16, 22]);
+    assert_eq!(
+        (rows.get(16), rows.get(11)),
+        (Some(Value::Null), Some(Value::Absent))
+    );
+    assert_eq!([25, usize::MAX].map(|row| rows.node(row)), [None; 2]);
+    // Looking shows it too.
+    let seen = argo::look(rows.words(), rows.message(), 11).unwrap();
+    assert_eq!((seen.value, seen.node), (Value::Absent, 9));
+}
+
+/// A tree is given its nodes by the table that it is written under.
+#[test]
+fn a_tree_has_the_nodes_of_its_table() {
+    let values = [Value::Array(1), Value::Str("a")];
+    let tree: argo::Tree = values.into_iter().collect();
+    assert_eq!(tree.rows(&texts()), [10, 1, 0, 0, 6, 0, 1, 1]);
+    let nullable = table(&[NULLABLE, ARRAY, NULLABLE, deduplicating(0), STRING]);
+    assert_eq!(tree.rows(&nullable), [10, 1, 0, 0, 6, 0, 1, 2]);
+    for table in [texts(), nullable] {
+        let message = table.write(argo::Modes::NONE, &tree).unwrap();
+        let rows = table.read(&message).unwrap();
+        assert_eq!(rows.iter().collect::<Vec<_>>(), values);
+        assert_eq!(rows.words()[7], tree.rows(&table)[7]);
+    }
+}
+
+#[test]
+fn the_version_is_that_of_the_header() {
+    let header = include_str!("../../../include/argo.h");
+    let says = |line: String| header.lines().any(|l| l == line);
+    assert!(says(format!("#define ARGO_VERSION \"{}\"", argo::VERSION)));
+    let names = ["MAJOR", "MINOR", "PATCH"];
+    for (name, number) in names.into_iter().zip(argo::VERSION.split('.')) {
+        assert!(
+            says(format!("#define ARGO_VERSION_{name} {number}")),
+            "{name}"
+        );
+    }
+    assert!(header.contains(&format!("ARGO_ROW_WORDS = {},", argo::ROW_WORDS)));
+}

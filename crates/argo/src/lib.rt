@@ -10,7 +10,7 @@ ghost use Rattle.format.specs.Write.{write};
 ghost use Rattle.writer.specs.Demands.{Demands};
 ghost use Rattle.argo.specs.Exported.{Shows, Stands};
 ghost use Rattle.rows.specs.declared.Seen.the-variants.{Truth};
-ghost use Rattle.rows.specs.Seen.{seen, rightCase};
+ghost use Rattle.rows.specs.Seen.{seen, seenUnder, rightCase};
 use label::words;
 use rows::kind;
 
@@ -21,7 +21,7 @@ pub struct Answer {
     pub second: u64,
 }
 
-// A row that was looked at: its three words, and the float of a float's row; all 0 where it is refused.
+// A row that was looked at: its four words, and the float of a float's row; all 0 where it is refused.
 #[repr(C)]
 pub struct Seen {
     pub number: u64,
@@ -29,6 +29,7 @@ pub struct Seen {
     pub kind: u64,
     pub a: u64,
     pub b: u64,
+    pub node: u64,
     pub value: f64,
 }
 
@@ -103,8 +104,8 @@ fn truth_kind(t: bool) -> u64
 }
 
 // A row by its words.
-fn row(kind: u64, a: u64, b: u64, value: f64) -> Seen
-    ensures { λ r. ⌜ r ≡ record { number = 0; second = 0; kind = kind; a = a; b = b; value = value } ⌝ }
+fn row(kind: u64, a: u64, b: u64, node: u64, value: f64) -> Seen
+    ensures { λ r. ⌜ r ≡ record { number = 0; second = 0; kind = kind; a = a; b = b; node = node; value = value } ⌝ }
 {
     Seen {
         number: 0,
@@ -112,6 +113,7 @@ fn row(kind: u64, a: u64, b: u64, value: f64) -> Seen
         kind,
         a,
         b,
+        node,
         value,
     }
 }
@@ -125,23 +127,24 @@ fn refused(number: u64) -> Seen
         kind: 0,
         a: 0,
         b: 0,
+        node: 0,
         value: 0.0,
     }
 }
 
-// What was seen, in words.
-fn shown(s: rows::Seen) -> Seen
+// What was seen, in words, under the row's node.
+fn shown(s: rows::Seen, node: u64) -> Seen
     requires { ⌜ rightCase s ⌝ }
-    ensures { λ r. ⌜ Shows r (seen s) ⌝ }
+    ensures { λ r. ⌜ Shows r (seenUnder node s) ⌝ }
 {
     match s {
-        rows::Seen::Null => row(kind::NULL, 0, 0, 0.0),
-        rows::Seen::Absent => row(kind::ABSENT, 0, 0, 0.0),
-        rows::Seen::Truth(t) => row(truth_kind(t), 0, 0, 0.0),
-        rows::Seen::Integer(n) => row(kind::INTEGER, words::word_of(n), 0, 0.0),
-        rows::Seen::Float(f, bits) => row(kind::FLOAT, bits, 0, f),
-        rows::Seen::Place { kind, start, size } => row(kind, start as u64, size as u64, 0.0),
-        rows::Seen::Count { kind, count } => row(kind, count, 0, 0.0),
+        rows::Seen::Null => row(kind::NULL, 0, 0, node, 0.0),
+        rows::Seen::Absent => row(kind::ABSENT, 0, 0, node, 0.0),
+        rows::Seen::Truth(t) => row(truth_kind(t), 0, 0, node, 0.0),
+        rows::Seen::Integer(n) => row(kind::INTEGER, words::word_of(n), 0, node, 0.0),
+        rows::Seen::Float(f, bits) => row(kind::FLOAT, bits, 0, node, f),
+        rows::Seen::Place { kind, start, size } => row(kind, start as u64, size as u64, node, 0.0),
+        rows::Seen::Count { kind, count } => row(kind, count, 0, node, 0.0),
         rows::Seen::Refused { number } => refused(number),
     }
 }
@@ -151,20 +154,15 @@ fn shown(s: rows::Seen) -> Seen
 pub extern "C" fn argo_look(rows: &[u64], bytes: &[u8], index: usize) -> Seen
     ensures { λ r. ⌜ Shows r (look (now (rows .entry)) (length (now (bytes .entry))) index) ⌝ }
 {
-    shown(rows::look(rows, bytes, index))
+    shown(rows::look(rows, bytes, index), rows::node_at(rows, index))
 }
 
-// Where the part of the bytes that a row names stands; the empty one at 0 if it names none.
+// Where the part of the bytes that a row names stands, whatever its node; the empty one at 0 if it names none.
 #[no_mangle]
 pub extern "C" fn argo_part(rows: &[u64], bytes: &[u8], index: usize) -> Place
-    ensures { λ r. ⌜ Stands (now (bytes .entry)) r (look (now (rows .entry)) (length (now (bytes .entry))) index) ⌝ }
+    ensures { λ r. ⌜ Stands (now (rows .entry)) (now (bytes .entry)) index r ⌝ }
 {
-    let rows::Seen::Place {
-        kind: _,
-        start,
-        size,
-    } = rows::look(rows, bytes, index)
-    else {
+    let rows::Placed::At(start, size) = rows::place_at(rows, bytes, index) else {
         return Place { start: 0, len: 0 };
     };
     Place {

@@ -99,7 +99,7 @@ pub fn look(
     count: u64,
     index: u64,
     wanted: Wanted,
-    wanted_row: &[u64; 3],
+    wanted_row: &[u64; 4],
 ) -> bool {
     let k = lent(bytes.len(), count);
     let seen = argo::argo_look(rows, &bytes[0..k], index as usize);
@@ -116,7 +116,10 @@ pub fn look(
     if seen.a != wanted_row[1] {
         return false;
     }
-    seen.b == wanted_row[2]
+    if seen.b != wanted_row[2] {
+        return false;
+    }
+    seen.node == wanted_row[3]
 }
 
 // The part itself, and where it stands.

@@ -193,7 +193,8 @@ fn look_case(s: &[u8], at: usize, bytes: &[u8], rows: &mut [u64]) -> Ran
     let kind = decode::number(s, wanted.at);
     let a = decode::number(s, kind.at);
     let b = decode::number(s, a.at);
-    let row = [kind.value, a.value, b.value];
+    let node = decode::number(s, b.at);
+    let row = [kind.value, a.value, b.value, node.value];
     let size = r.size;
     let same = calls::look(
         &rows[0..size],
@@ -203,7 +204,7 @@ fn look_case(s: &[u8], at: usize, bytes: &[u8], rows: &mut [u64]) -> Ran
         wanted,
         &row,
     );
-    Ran { same, at: b.at }
+    Ran { same, at: node.at }
 }
 
 fn part_case(s: &[u8], at: usize, rows: &mut [u64], bytes: &mut [u8], part: &mut [u8]) -> Ran
@@ -322,8 +323,8 @@ fn next_block(t: Tally) -> Turn {
     let mut table = [0u8; 73728];
     let mut bytes = [0u8; 73728];
     let mut out = [0u8; 73728];
-    let mut rows = [0u64; 25000];
-    let mut wanted = [0u64; 25000];
+    let mut rows = [0u64; 33000];
+    let mut wanted = [0u64; 33000];
     let mut work = [0u32; 21504];
     let n = io::read_full(STDIN_FILENO, &mut input);
     let tally = block(
