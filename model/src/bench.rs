@@ -8,7 +8,7 @@ use crate::hostile::{self, List};
 use crate::scenes::{self, Scene};
 use crate::table::{self, file, Node};
 use crate::write::{self, Search};
-use crate::{clock, ffi, read, Answer, MAX_BYTES, NO_DEDUPLICATION, WORK_WORDS};
+use crate::{clock, ffi, read, rows, Answer, MAX_BYTES, NO_DEDUPLICATION, WORK_WORDS};
 
 /// Rounds of all measurements; a call's best one counts.
 const ROUNDS: usize = 60;
@@ -69,7 +69,7 @@ pub fn hostile() {
     for list in hostile::lists() {
         let list = list();
         let [hash, library] = hostile_times(&list).map(|time| time * 1e3);
-        let (rows, name) = (commas(list.rows.len() / 3), list.name);
+        let (rows, name) = (commas(list.rows.len() / rows::WORDS), list.name);
         println!("| {rows:>5} | {name:<46} | {hash:>7.1} | {library:>7.1} |");
     }
     println!();
@@ -142,7 +142,7 @@ fn write_calls(scene: &Scene, modes: u64) -> [Call<'_>; 4] {
 fn text_calls(scenes: &[Scene]) -> [Call<'_>; 4] {
     let turns = || scenes.iter().cycle();
     let [mut checked, mut read, mut read_too, mut written] = std::array::from_fn(|_| turns());
-    let [mut rows, mut lent_rows] = [[0; 3]; 2];
+    let [mut rows, mut lent_rows] = [[0; rows::WORDS]; 2];
     let room = scenes.iter().map(|scene| scene.message.len()).max();
     let mut lent = vec![0; room.unwrap_or(0)];
     let [mut owed, mut work, mut work_too] = std::array::from_fn(|_| Work::new());

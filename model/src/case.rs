@@ -10,7 +10,7 @@
 
 use std::fmt;
 
-use crate::rows::{self, Seen};
+use crate::rows::{self, Seen, Value};
 use crate::{read, table, write, Answer, MAX_BYTES, MAX_ROWS};
 
 #[derive(Clone, Debug, PartialEq)]
@@ -89,10 +89,10 @@ impl Case {
                 message,
             } => {
                 // Words past the most rows are zeros that nobody asks for here.
-                let mut lent = vec![0; (*rows).min(3 * MAX_ROWS + 3)];
+                let mut lent = vec![0; (*rows).min(rows::WORDS * (MAX_ROWS + 1))];
                 let answer = read::read(table, message, &mut lent, *work);
                 let used = if answer.is_success() {
-                    3 * answer.second as usize
+                    rows::WORDS * answer.second as usize
                 } else {
                     0
                 };
@@ -250,16 +250,17 @@ impl fmt::Display for Answer {
 
 impl fmt::Display for Seen {
     fn fmt(&self, f: &mut fmt::Formatter) -> fmt::Result {
-        match self {
-            Seen::Null => f.write_str("null"),
-            Seen::Absent => f.write_str("absent"),
-            Seen::Truth(false) => f.write_str("truth:False"),
-            Seen::Truth(true) => f.write_str("truth:True"),
-            Seen::Integer(n) => write!(f, "integer:{n}"),
-            Seen::Float(x) => write!(f, "float:{:016x}", x.to_bits()),
-            Seen::Place { start, len, .. } => write!(f, "place:{start}:{len}"),
-            Seen::Count { count, .. } => write!(f, "count:{count}"),
+        match self.value {
+            Value::Null => f.write_str("null")?,
+            Value::Absent => f.write_str("absent")?,
+            Value::Truth(false) => f.write_str("truth:False")?,
+            Value::Truth(true) => f.write_str("truth:True")?,
+            Value::Integer(n) => write!(f, "integer:{n}")?,
+            Value::Float(x) => write!(f, "float:{}", x.to_bits())?,
+            Value::Place { start, len, .. } => write!(f, "place:{start}:{len}")?,
+            Value::Count { count, .. } => write!(f, "count:{count}")?,
         }
+        write!(f, "@{}", self.node)
     }
 }
 

@@ -8,7 +8,7 @@ use crate::case::Case;
 use crate::ffi;
 use crate::gen::Cases;
 use crate::rng::Rng;
-use crate::rows::{self, Seen};
+use crate::rows::{self, Seen, Value};
 use crate::{read, table, write, Answer};
 
 /// Words around a lent buffer that no call may touch.
@@ -323,9 +323,9 @@ fn same_words<T: Word + std::fmt::Display>(
 fn same_seen(rows: &[u64], bytes: &[u8], index: u64) -> Result<(), String> {
     let (ours, seen) = rows::look(rows, bytes.len(), index);
     let theirs = ffi::look(rows, bytes, index).expect("linked");
-    let words = seen.map_or([0; 3], Seen::words);
-    let value = match seen {
-        Some(Seen::Float(x)) => x,
+    let words = seen.map_or([0; rows::WORDS], Seen::row);
+    let value = match seen.map(|seen| seen.value) {
+        Some(Value::Float(x)) => x,
         _ => 0.0,
     };
     // The row's bits are in `a`; the float of a NaN may be any NaN.
@@ -336,7 +336,7 @@ fn same_seen(rows: &[u64], bytes: &[u8], index: u64) -> Result<(), String> {
     };
     let same = theirs.number == ours.number
         && theirs.second == ours.second
-        && [theirs.kind, theirs.a, theirs.b] == words
+        && [theirs.kind, theirs.a, theirs.b, theirs.node] == words
         && same_value;
     if same {
         Ok(())

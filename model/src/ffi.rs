@@ -18,6 +18,7 @@ pub struct ArgoSeen {
     pub kind: u64,
     pub a: u64,
     pub b: u64,
+    pub node: u64,
     pub value: f64,
 }
 

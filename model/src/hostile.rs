@@ -19,8 +19,8 @@ pub struct List {
 
 impl List {
     fn new(name: &'static str, places: &[[u64; 2]], pool: Vec<u8>, number: u64) -> List {
-        let mut rows = vec![rows::ARRAY, places.len() as u64, 0];
-        rows.extend(places.iter().flat_map(|[a, b]| [rows::STRING, *a, *b]));
+        let mut rows = vec![rows::ARRAY, places.len() as u64, 0, 0];
+        rows.extend(places.iter().flat_map(|[a, b]| [rows::STRING, *a, *b, 1]));
         List {
             name,
             rows,

@@ -182,8 +182,9 @@ fn keep(dir: &str, options: &Options) -> Result<bool, String> {
     let stored = store::Store::new(options.seed, &options.kinds, options.blocks, given);
     let report = format!("{} cases, 0 differ\n", stored.count());
     print!(
-        "{} bytes, {} cases left out; {report}",
+        "{} bytes, {} the largest case, {} cases left out; {report}",
         stored.file.len(),
+        stored.largest,
         stored.left_out
     );
     put(dir, "stdin", &stored.file)?;

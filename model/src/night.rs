@@ -63,21 +63,22 @@ impl Night {
     /// The rows and their pool. Every text has a place of its own, so that equal ones are found by their bytes alone.
     pub fn rows(&self) -> (Vec<u64>, Vec<u8>) {
         let mut pool = Vec::new();
-        let mut list = vec![rows::ARRAY, self.jobs.len() as u64, 0];
-        let mut place = |kind: u64, bytes: &[u8]| {
+        let mut list = vec![rows::ARRAY, self.jobs.len() as u64, 0, 0];
+        let mut place = |kind: u64, bytes: &[u8], node: u64| {
             pool.extend(bytes);
-            [kind, (pool.len() - bytes.len()) as u64, bytes.len() as u64]
+            let start = pool.len() - bytes.len();
+            [kind, start as u64, bytes.len() as u64, node]
         };
         for job in &self.jobs {
-            list.extend([rows::RECORD, 5, 0]);
-            list.extend(place(rows::STRING, job.name.as_bytes()));
-            list.extend(place(rows::STRING, job.status.as_bytes()));
+            list.extend([rows::RECORD, 5, 0, 1]);
+            list.extend(place(rows::STRING, job.name.as_bytes(), 2));
+            list.extend(place(rows::STRING, job.status.as_bytes(), 4));
             list.extend(match job.note {
-                Some(note) => place(rows::STRING, note.as_bytes()),
-                None => [rows::NULL, 0, 0],
+                Some(note) => place(rows::STRING, note.as_bytes(), 6),
+                None => [rows::NULL, 0, 0, 6],
             });
-            list.extend([rows::INTEGER, job.seconds, 0]);
-            list.extend(place(rows::FIXED, &job.digest));
+            list.extend([rows::INTEGER, job.seconds, 0, 9]);
+            list.extend(place(rows::FIXED, &job.digest, 11));
         }
         (list, pool)
     }

@@ -10,7 +10,7 @@ use crate::{
 pub fn read(table: &[u8], message: &[u8], rows: &mut [u64], work: usize) -> Answer {
     match read_rows(table, message, rows, work) {
         Ok(count) => {
-            rows[3 * count..].fill(0);
+            rows[rows::WORDS * count..].fill(0);
             Answer::success(count)
         }
         Err(refusal) => {
@@ -42,7 +42,7 @@ fn read_rows(table: &[u8], message: &[u8], rows: &mut [u64], work: usize) -> Res
         pieces(message)?
     };
     let core = blocks.pop().expect("there is always a core");
-    let room = MAX_ROWS.min(rows.len() / 3);
+    let room = MAX_ROWS.min(rows.len() / rows::WORDS);
     let mut reader = Reader {
         types: &types,
         message,
@@ -126,10 +126,10 @@ impl Reader<'_> {
         match this.kind {
             table::STRING | table::BYTES if n >= 0 => self.literal(&this, n as u64),
             table::STRING | table::BYTES if n <= -4 => self.backreference(&this, n),
-            table::BOOLEAN if n == 0 => self.row(rows::FALSE, 0, 0),
-            table::BOOLEAN if n == 1 => self.row(rows::TRUE, 0, 0),
+            table::BOOLEAN if n == 0 => self.row(this.node, rows::FALSE, 0, 0),
+            table::BOOLEAN if n == 1 => self.row(this.node, rows::TRUE, 0, 0),
             table::ARRAY if n >= 0 => {
-                self.row(rows::ARRAY, n as u64, 0)?;
+                self.row(this.node, rows::ARRAY, n as u64, 0)?;
                 // The count is not trusted: the walk ends at the first entry at fault.
                 for _ in 0..n {
                     self.value(this.child as usize)?;
@@ -143,13 +143,13 @@ impl Reader<'_> {
     /// A label that is none of the value's own: absent, null, or not allowed.
     fn without_value(&mut self, this: &WireType, n: i64) -> Result<(), Answer> {
         match n {
-            -2 if this.omittable => self.row(rows::ABSENT, 0, 0),
-            -1 if this.nullable => self.row(rows::NULL, 0, 0),
+            -2 if this.omittable => self.row(this.node, rows::ABSENT, 0, 0),
+            -1 if this.nullable => self.row(this.node, rows::NULL, 0, 0),
             -3 if this.nullable => {
                 if self.modes & OUT_OF_BAND_FIELD_ERRORS == 0 {
                     return refuse(25, 0);
                 }
-                self.row(rows::NULL, 0, 0)
+                self.row(this.node, rows::NULL, 0, 0)
             }
             _ => refuse(24, 0),
         }
@@ -158,7 +158,7 @@ impl Reader<'_> {
     fn unlabelled(&mut self, this: &WireType) -> Result<(), Answer> {
         match this.kind {
             table::RECORD => {
-                self.row(rows::RECORD, this.argument as u64, 0)?;
+                self.row(this.node, rows::RECORD, this.argument as u64, 0)?;
                 let mut field = this.child as usize;
                 for _ in 0..this.argument {
                     self.value(field)?;
@@ -173,17 +173,17 @@ impl Reader<'_> {
                     return refuse(23, 0);
                 };
                 piece.at = after;
-                self.row(rows::INTEGER, n as u64, 0)
+                self.row(this.node, rows::INTEGER, n as u64, 0)
             }
             table::FLOAT64 => {
                 let start = self.take(this.key, 8)?;
                 let bits = self.message[start..][..8].try_into().expect("eight bytes");
-                self.row(rows::FLOAT, u64::from_le_bytes(bits), 0)
+                self.row(this.node, rows::FLOAT, u64::from_le_bytes(bits), 0)
             }
             _ => {
                 let len = this.argument as u64;
                 let start = self.take(this.key, len)?;
-                self.row(rows::FIXED, start as u64, len)
+                self.row(this.node, rows::FIXED, start as u64, len)
             }
         }
     }
@@ -201,7 +201,7 @@ impl Reader<'_> {
             self.numbered += 1;
             self.literals[this.key as usize].push((start as u32, len as u32));
         }
-        self.row(place_kind(this), start as u64, len)
+        self.row(this.node, place_kind(this), start as u64, len)
     }
 
     /// In mode 5, or for a key that does not deduplicate, no number was ever given.
@@ -213,7 +213,7 @@ impl Reader<'_> {
             return refuse(26, 0);
         }
         let (start, len) = given[number as usize];
-        self.row(place_kind(this), start as u64, len as u64)
+        self.row(this.node, place_kind(this), start as u64, len as u64)
     }
 
     /// The next label of the core.
@@ -255,11 +255,17 @@ impl Reader<'_> {
         Ok(start)
     }
 
-    fn row(&mut self, kind: u64, a: u64, b: u64) -> Result<(), Answer> {
+    /// A row of the value whose top node this is.
+    fn row(&mut self, node: u16, kind: u64, a: u64, b: u64) -> Result<(), Answer> {
         if self.count == self.room {
             return refuse(31, 0);
         }
-        self.rows[3 * self.count..][..3].copy_from_slice(&[kind, a, b]);
+        self.rows[rows::WORDS * self.count..][..rows::WORDS].copy_from_slice(&[
+            kind,
+            a,
+            b,
+            node.into(),
+        ]);
         self.count += 1;
         Ok(())
     }

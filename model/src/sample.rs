@@ -66,24 +66,25 @@ pub fn table() -> Vec<u8> {
 
 pub fn message() -> Vec<u8> {
     let mut pool = Vec::new();
-    let mut list = vec![rows::ARRAY, JOBS.len() as u64, 0];
-    let mut place = |kind: u64, bytes: &[u8]| {
+    let mut list = vec![rows::ARRAY, JOBS.len() as u64, 0, 0];
+    let mut place = |kind: u64, bytes: &[u8], node: u64| {
         pool.extend(bytes);
-        [kind, (pool.len() - bytes.len()) as u64, bytes.len() as u64]
+        let start = pool.len() - bytes.len();
+        [kind, start as u64, bytes.len() as u64, node]
     };
     for job in &JOBS {
-        list.extend([rows::RECORD, 5, 0]);
-        list.extend(place(rows::STRING, job.name.as_bytes()));
-        list.extend(place(rows::STRING, job.status.as_bytes()));
+        list.extend([rows::RECORD, 5, 0, 1]);
+        list.extend(place(rows::STRING, job.name.as_bytes(), 2));
+        list.extend(place(rows::STRING, job.status.as_bytes(), 4));
         list.extend(match job.note {
-            Some(note) => place(rows::STRING, note.as_bytes()),
-            None => [rows::NULL, 0, 0],
+            Some(note) => place(rows::STRING, note.as_bytes(), 6),
+            None => [rows::NULL, 0, 0, 6],
         });
         list.extend(match job.seconds {
-            Some(seconds) => [rows::INTEGER, seconds as u64, 0],
-            None => [rows::ABSENT, 0, 0],
+            Some(seconds) => [rows::INTEGER, seconds as u64, 0, 9],
+            None => [rows::ABSENT, 0, 0, 9],
         });
-        list.extend(place(rows::FIXED, &job.digest));
+        list.extend(place(rows::FIXED, &job.digest, 11));
     }
     let mut message = vec![0; MAX_BYTES];
     let answer = write::write(&table(), 0, &list, &pool, &mut message, WORK_WORDS);

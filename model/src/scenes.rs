@@ -42,7 +42,7 @@ impl Scene {
     }
 
     pub fn count(&self) -> usize {
-        self.rows.len() / 3
+        self.rows.len() / rows::WORDS
     }
 }
 
@@ -62,7 +62,7 @@ pub fn pairs() -> Vec<[Scene; 2]> {
 
 /// Messages of a few rows.
 pub fn small() -> Vec<Scene> {
-    let text = [rows::ARRAY, 1, 0, rows::STRING, 0, 8].to_vec();
+    let text = [rows::ARRAY, 1, 0, 0, rows::STRING, 0, 8, 1].to_vec();
     let (job, pool) = Night::new(1).rows();
     vec![
         array("an empty array", 0, 0, |_| String::new()),
@@ -94,7 +94,7 @@ pub fn long_texts() -> Vec<[Scene; 8]> {
                 }
                 text.push(next);
             }
-            let row = vec![rows::STRING, 0, text.len() as u64];
+            let row = vec![rows::STRING, 0, text.len() as u64, 0];
             let nodes = [table::BLOCK, table::STRING].map(|kind| Node::new(kind, 0, 0));
             Scene::new(name, &nodes, row, text.into_bytes())
         })
@@ -167,16 +167,16 @@ fn digit(number: usize) -> char {
 /// An array of texts of six bytes, all different but for the repeats.
 fn array(name: &str, literals: usize, repeats: usize, spell: fn(usize) -> String) -> Scene {
     let pool: Vec<u8> = (0..literals).flat_map(|i| spell(i).into_bytes()).collect();
-    let text = |i: usize| [rows::STRING, 6 * i as u64, 6];
-    let mut list = vec![rows::ARRAY, (literals + repeats) as u64, 0];
+    let text = |i: usize| [rows::STRING, 6 * i as u64, 6, 1];
+    let mut list = vec![rows::ARRAY, (literals + repeats) as u64, 0, 0];
     list.extend((0..literals).flat_map(text));
     list.extend((0..repeats).flat_map(|i| text(i * 2_654_435_761 % literals)));
     Scene::new(name, &table_s(), list, pool)
 }
 
 fn empty_records(entries: usize) -> Scene {
-    let mut list = vec![rows::ARRAY, entries as u64, 0];
-    list.extend([rows::RECORD, 0, 0].repeat(entries));
+    let mut list = vec![rows::ARRAY, entries as u64, 0, 0];
+    list.extend([rows::RECORD, 0, 0, 1].repeat(entries));
     let name = format!("{} empty records", commas(entries));
     Scene::new(&name, &table_e(), list, Vec::new())
 }
@@ -187,8 +187,8 @@ fn truths(entries: usize) -> Scene {
         Node::new(table::RECORD, 0, 1),
         Node::new(table::BOOLEAN, 0, 0),
     ];
-    let mut list = vec![rows::ARRAY, entries as u64, 0];
-    list.extend([rows::RECORD, 1, 0, rows::TRUE, 0, 0].repeat(entries));
+    let mut list = vec![rows::ARRAY, entries as u64, 0, 0];
+    list.extend([rows::RECORD, 1, 0, 1, rows::TRUE, 0, 0, 2].repeat(entries));
     let name = format!("{} records of a truth", commas(entries));
     Scene::new(&name, &nodes, list, Vec::new())
 }
@@ -201,10 +201,10 @@ fn numbers(entries: usize) -> Scene {
         Node::new(table::VARINT, 0, 0),
     ];
     let mut rng = Rng::new(entries as u64);
-    let mut list = vec![rows::ARRAY, entries as u64, 0];
+    let mut list = vec![rows::ARRAY, entries as u64, 0, 0];
     for _ in 0..entries {
         let bits = rng.below(64) as u32;
-        list.extend([rows::INTEGER, rng.word() >> bits, 0]);
+        list.extend([rows::INTEGER, rng.word() >> bits, 0, 1]);
     }
     let name = format!("{} numbers", commas(entries));
     Scene::new(&name, &nodes, list, Vec::new())
@@ -213,12 +213,12 @@ fn numbers(entries: usize) -> Scene {
 /// Under an array, each entry goes down through arrays of one to depth 32.
 fn deep(entries: usize) -> Scene {
     let nodes = array_chain(32, true);
-    let mut list = vec![rows::ARRAY, entries as u64, 0];
+    let mut list = vec![rows::ARRAY, entries as u64, 0, 0];
     for i in 0..entries {
-        for _ in 0..29 {
-            list.extend([rows::ARRAY, 1, 0]);
+        for node in 1..30 {
+            list.extend([rows::ARRAY, 1, 0, node]);
         }
-        list.extend([rows::STRING, (i % 8) as u64, 8]);
+        list.extend([rows::STRING, (i % 8) as u64, 8, 30]);
     }
     let pool = b"deepdeepdeepdeep".to_vec();
     let name = format!("{entries} entries, 32 deep");
@@ -229,9 +229,9 @@ fn deep(entries: usize) -> Scene {
 fn twos(levels: usize) -> Scene {
     let mut nodes = vec![Node::new(table::ARRAY, 0, 0); levels];
     nodes.push(Node::new(table::BOOLEAN, 0, 0));
-    let mut list = [rows::TRUE, 0, 0].to_vec();
-    for _ in 0..levels {
-        list = [&[rows::ARRAY, 2, 0], &list[..], &list[..]].concat();
+    let mut list = [rows::TRUE, 0, 0, levels as u64].to_vec();
+    for node in (0..levels as u64).rev() {
+        list = [&[rows::ARRAY, 2, 0, node], &list[..], &list[..]].concat();
     }
     let name = format!("arrays of two, {levels} deep");
     Scene::new(&name, &nodes, list, Vec::new())

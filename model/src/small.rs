@@ -110,8 +110,8 @@ impl Search {
         got
     }
 
-    /// One tree: each spelling reads as it; the writer makes a shortest one; 43
-    /// comes exactly when none fits.
+    /// One tree: each spelling reads as it, nodes and all; the writer makes a shortest
+    /// one, and takes no other nodes; 43 comes exactly when none fits.
     pub fn tree(&mut self, nodes: &[Node], rows: &[u64], pool: &[u8], modes: u64) {
         let types = types(nodes);
         let table = file(nodes);
@@ -142,6 +142,15 @@ impl Search {
         // Only values that come again can be named, so asking those is enough.
         if premise || spell::premise(&types, rows, pool, modes, true) {
             self.expect(count == least, "is shortest", nodes, rows, modes);
+        }
+        // Another node is refused, at its row; in one mode is enough.
+        let asked = if modes == 0 { wanted.len() } else { 0 };
+        for at in 0..asked {
+            let mut other = rows.to_vec();
+            other[rows::WORDS * at + 3] ^= 1;
+            let answer = self.write(&table, modes, &other, pool, &mut out[..count]);
+            let refused = answer == Answer::refused(42, at);
+            self.expect(refused, "has its own nodes", nodes, &other, modes);
         }
         for lent in [0, 1, least - 1, least, count - 1, count, count + 1] {
             let answer = self.write(&table, modes, rows, pool, &mut out[..lent]);
@@ -247,18 +256,18 @@ impl Search {
         // A block of 63 or 64 bytes, of 8,191 or 8,192, with and without the repeat.
         for total in [31, 32, 62, 63, 64, 65, 4_095, 4_096, 8_190, 8_191, 8_192] {
             let text = vec![b'k'; total];
-            let whole = [rows::STRING, 0, total as u64];
-            let front = [rows::STRING, 0, total as u64 - 1];
-            let list = [[rows::ARRAY, 3, 0], whole, front, whole].concat();
+            let whole = [rows::STRING, 0, total as u64, 1];
+            let front = [rows::STRING, 0, total as u64 - 1, 1];
+            let list = [[rows::ARRAY, 3, 0, 0], whole, front, whole].concat();
             for modes in all_modes() {
                 self.tree(&table_s(), &list, &text, modes);
             }
         }
         // A core around 63 and 8,191 bytes that holds mostly empty texts.
         for entries in [60, 61, 62, 63, 64, 65, 8_186, 8_187, 8_188, 8_189, 8_190] {
-            let mut list = vec![rows::ARRAY, entries, 0];
+            let mut list = vec![rows::ARRAY, entries, 0, 0];
             for _ in 0..entries {
-                list.extend([rows::STRING, 0, 0]);
+                list.extend([rows::STRING, 0, 0, 1]);
             }
             // Too many spellings to list.
             self.only_equal(&list, entries as usize);
@@ -274,14 +283,17 @@ impl Search {
             let value = [i as u8, 0x7f, 0x7e];
             // One value at most can be empty.
             let size = if size == 0 && i != named[0] { 1 } else { size };
-            places.push([rows::STRING, pool.len() as u64, size as u64]);
+            places.push([rows::STRING, pool.len() as u64, size as u64, 1]);
             pool.extend(&value[..size]);
         }
-        let again: Vec<[u64; 3]> = named.iter().map(|&i| places[i]).collect();
+        let again: Vec<rows::Row> = named.iter().map(|&i| places[i]).collect();
         places.extend(again);
         let count = places.len();
-        let array = [vec![[rows::ARRAY, count as u64, 0]], places.clone()].concat();
-        let record = [vec![[rows::RECORD, count as u64, 0]], places].concat();
+        let array = [vec![[rows::ARRAY, count as u64, 0, 0]], places.clone()].concat();
+        let mut record = [vec![[rows::RECORD, count as u64, 0, 0]], places].concat();
+        for (field, row) in (0..).zip(&mut record[1..]) {
+            row[3] = text_field(field);
+        }
         for modes in [0, 1, NO_DEDUPLICATION] {
             self.tree(&table_s(), &array.concat(), &pool, modes);
             self.tree(&text_record(count), &record.concat(), &pool, modes);
@@ -303,19 +315,26 @@ impl Search {
             self.trees += 1;
             self.shortest += 1;
             let holds = answer == Answer::success(wanted);
-            self.expect(holds, "is shortest", &nodes, &list[..3], modes);
+            self.expect(holds, "is shortest", &nodes, &list[..rows::WORDS], modes);
             let read_back = self.read(&file(&nodes), &out[..wanted]);
             let same = read_back.is_ok_and(|got| tree_of(&got, &out) == tree_of(list, &[]));
-            self.expect(same, "reads as its tree", &nodes, &list[..3], modes);
+            self.expect(
+                same,
+                "reads as its tree",
+                &nodes,
+                &list[..rows::WORDS],
+                modes,
+            );
         }
     }
 
     /// 63 one-byte texts in a record, the last repeats the 62nd: 130 against 129.
     pub fn sheet_example(&mut self) {
         let nodes = text_record(63);
-        let mut list = vec![rows::RECORD, 63, 0];
+        let mut list = vec![rows::RECORD, 63, 0, 0];
         for i in 0..63 {
-            list.extend([rows::STRING, if i == 62 { 61 } else { i }, 1]);
+            let start = if i == 62 { 61 } else { i };
+            list.extend([rows::STRING, start, 1, text_field(i)]);
         }
         let pool: Vec<u8> = (0x20..0x20 + 63).collect();
         let mut sizes: Vec<usize> = spell::all(&types(&nodes), &list, &pool, 0)
@@ -385,7 +404,7 @@ impl Search {
 
     fn rewrite(&mut self, nodes: &[Node], table: &[u8], message: &[u8], list: &[u64]) {
         // Thousands of empty records need no second look.
-        if list.len() > 60 {
+        if list.len() > 80 {
             return;
         }
         let modes = (message[0] >> 1) as u64;
@@ -419,14 +438,19 @@ pub fn text_record(count: usize) -> Vec<Node> {
     nodes
 }
 
+/// The node of one of its fields.
+pub fn text_field(field: u64) -> u64 {
+    1 + 2 * field
+}
+
 /// The rows of a message, with rows enough lent.
 pub fn reading(table: &[u8], message: &[u8]) -> Result<Vec<u64>, Answer> {
     // Most messages here are refused or tiny, so few rows are tried first.
     for room in [64, MAX_ROWS] {
-        let mut rows = vec![0; 3 * room];
+        let mut rows = vec![0; rows::WORDS * room];
         let answer = read::read(table, message, &mut rows, WORK_WORDS);
         if answer.is_success() {
-            rows.truncate(3 * answer.second as usize);
+            rows.truncate(rows::WORDS * answer.second as usize);
             return Ok(rows);
         }
         if answer.number != 31 {
@@ -436,15 +460,15 @@ pub fn reading(table: &[u8], message: &[u8]) -> Result<Vec<u64>, Answer> {
     Err(Answer::refused(31, 0))
 }
 
-/// Rows with each place replaced by its bytes: equal for the same tree.
-pub fn tree_of<'a>(list: &[u64], bytes: &'a [u8]) -> Vec<(u64, u64, &'a [u8])> {
-    list.chunks_exact(3)
+/// Rows with each place replaced by its bytes, kind and node beside it: equal for the same tree.
+pub fn tree_of<'a>(list: &[u64], bytes: &'a [u8]) -> Vec<(u64, u64, &'a [u8], u64)> {
+    list.chunks_exact(rows::WORDS)
         .map(|row| match row[0] {
             rows::STRING..=rows::FIXED => {
                 let place = &bytes[row[1] as usize..][..row[2] as usize];
-                (row[0], 0, place)
+                (row[0], 0, place, row[3])
             }
-            _ => (row[0], row[1], &bytes[..0]),
+            _ => (row[0], row[1], &bytes[..0], row[3]),
         })
         .collect()
 }
@@ -454,12 +478,16 @@ pub fn tree_of<'a>(list: &[u64], bytes: &'a [u8]) -> Vec<(u64, u64, &'a [u8])> {
 struct Sketch {
     kind: u64,
     a: u64,
+    node: u64,
 }
 
 /// All trees of a type with up to `entries` in each array.
 fn trees(types: &[WireType], node: usize, texts: usize, entries: usize) -> Vec<Vec<Sketch>> {
     let this = types[node];
-    let one = |kind, a| vec![Sketch { kind, a }];
+    let one = |kind, a| {
+        let node = node as u64;
+        vec![Sketch { kind, a, node }]
+    };
     let mut all = Vec::new();
     if this.omittable {
         all.push(one(rows::ABSENT, 0));
@@ -511,9 +539,9 @@ fn place(tree: &[Sketch], texts: &[&str], copy: usize) -> Vec<u64> {
                 let at = row.a as usize;
                 let start: usize = texts[..at].iter().map(|text| text.len()).sum();
                 let start = start + if i % 2 == 1 { copy } else { 0 };
-                list.extend([row.kind, start as u64, texts[at].len() as u64]);
+                list.extend([row.kind, start as u64, texts[at].len() as u64, row.node]);
             }
-            kind => list.extend([kind, row.a, 0]),
+            kind => list.extend([kind, row.a, 0, row.node]),
         }
     }
     list

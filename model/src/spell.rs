@@ -57,7 +57,11 @@ pub fn spell(
         },
     };
     speller.value(0);
-    assert_eq!(3 * speller.next, rows.len(), "rows are one whole tree");
+    assert_eq!(
+        rows::WORDS * speller.next,
+        rows.len(),
+        "rows are one whole tree"
+    );
     speller.pieces
 }
 
@@ -75,7 +79,7 @@ struct Speller<'a> {
 impl Speller<'_> {
     fn value(&mut self, node: usize) {
         let this = self.types[node];
-        let [kind, a, b] = rows::get(self.rows, self.next as u64).expect("a row for each value");
+        let [kind, a, b, _] = rows::get(self.rows, self.next as u64).expect("a row for each value");
         self.next += 1;
         let unlabelled = matches!(
             this.kind,

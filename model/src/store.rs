@@ -9,7 +9,7 @@
 //! T work table, number second
 //! R work rows table message, number second rows
 //! W work out modes table rows pool, number second message
-//! L bytes index rows, number second kind a b
+//! L bytes index rows, number second kind a b node
 //! P index rows data, part
 //! ```
 
@@ -17,9 +17,9 @@ use std::collections::HashSet;
 use std::ops::Range;
 
 use crate::case::{Case, Reply};
-use crate::gen::{fixed, limits, texts, Cases, KINDS};
+use crate::gen::{fixed, limits, nodes, texts, Cases, KINDS};
 use crate::rng::Rng;
-use crate::rows::Seen;
+use crate::rows::{self, Seen};
 use crate::Answer;
 
 /// A case does not cross the end of a block.
@@ -27,33 +27,40 @@ const BLOCK: usize = 65_536;
 
 /// What the program has to lend.
 const WORK: usize = 21_504;
-const ROWS: usize = 25_000;
+const ROWS: usize = 33_000;
 const BYTES: usize = 73_728;
 
 /// The longest pattern that is looked for in runs.
-const PATTERN: usize = 12;
+const PATTERN: usize = 16;
 
 /// Cases in blocks.
 pub struct Store {
     pub file: Vec<u8>,
     blocks: usize,
     stored: HashSet<Vec<u8>>,
+    /// Bytes of the largest case.
+    pub largest: usize,
     /// Cases that are larger than the program can take, or than what was left of the last block.
     pub left_out: usize,
 }
 
 impl Store {
-    /// The sheet's cases, the limits, those given and the texts; then, by turns, some of the fixed list and of the
-    /// generator, until one does not fit any more.
+    /// The sheet's cases, the limits, those given, the texts and the nodes; then, by turns, some of the fixed list and of
+    /// the generator, until one does not fit any more.
     pub fn new(seed: u64, kinds: &str, blocks: usize, given: Vec<Case>) -> Store {
         let mut store = Store {
             file: Vec::new(),
             blocks,
             stored: HashSet::new(),
+            largest: 0,
             left_out: 0,
         };
         let chosen = fixed::sheet().into_iter().chain(limits::cases());
-        for case in chosen.chain(given).chain(texts::chosen()) {
+        for case in chosen
+            .chain(given)
+            .chain(texts::chosen())
+            .chain(nodes::chosen())
+        {
             if kinds.contains(case.kind()) && !store.add(&case) {
                 store.left_out += 1;
             }
@@ -67,7 +74,7 @@ impl Store {
             } else {
                 cases.next_case()
             };
-            if encode(&more).is_some_and(|case| case.len() < 1_000) && !store.add(&more) {
+            if encode(&more).is_some_and(|case| case.len() < 2_500) && !store.add(&more) {
                 return store;
             }
         }
@@ -96,6 +103,7 @@ impl Store {
         }
         self.file.resize(self.file.len() + pad, 0);
         self.file.extend(&case);
+        self.largest = self.largest.max(case.len());
         self.stored.insert(case)
     }
 }
@@ -164,7 +172,7 @@ fn encode(case: &Case) -> Option<Vec<u8>> {
         }
         Reply::Seen(answer, seen) => {
             numbers(*answer, &mut out);
-            for word in seen.map_or([0; 3], Seen::words) {
+            for word in seen.map_or([0; rows::WORDS], Seen::row) {
                 number(word, &mut out);
             }
         }

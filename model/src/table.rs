@@ -170,6 +170,8 @@ fn check_keys(nodes: &[Node]) -> Result<(), Answer> {
 /// A value's type: its top node with the wrapper nodes below folded in.
 #[derive(Clone, Copy, Debug)]
 pub struct WireType {
+    /// The top node itself, which the value's rows have as their last word.
+    pub node: u16,
     pub omittable: bool,
     pub nullable: bool,
     pub deduplicate: bool,
@@ -195,6 +197,7 @@ impl WireType {
 /// so one pass from the back finds every subtree's end.
 pub fn wire_types(nodes: &[Node]) -> Vec<WireType> {
     let nothing = WireType {
+        node: 0,
         omittable: false,
         nullable: false,
         deduplicate: false,
@@ -231,6 +234,7 @@ pub fn wire_types(nodes: &[Node]) -> Vec<WireType> {
                 }
             }
         };
+        this.node = i as u16;
         this.omittable = node.flags & OMITTABLE != 0;
         types[i] = this;
     }

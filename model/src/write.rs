@@ -71,7 +71,9 @@ fn write_message(
         return refuse(40, 0);
     }
     let modes = modes as u64;
-    if !rows.len().is_multiple_of(3) || rows.len() / 3 > MAX_ROWS || pool.len() > MAX_BYTES {
+    let count = rows.len() / rows::WORDS;
+    let whole = rows.len() == rows::WORDS * count;
+    if !whole || count > MAX_ROWS || pool.len() > MAX_BYTES {
         return refuse(41, 0);
     }
     let mut writer = Writer {
@@ -81,14 +83,14 @@ fn write_message(
         rows,
         pool,
         next: 0,
-        core: Vec::with_capacity(rows.len() / 3),
+        core: Vec::with_capacity(count),
         order: Vec::new(),
         keys: std::array::from_fn(|_| Key::default()),
         different: 0,
         value_bytes: 0,
     };
     writer.value(0)?;
-    if writer.next < rows.len() / 3 {
+    if writer.next < count {
         return refuse(42, writer.next);
     }
     if writer.different > MAX_NUMBERED {
@@ -158,10 +160,10 @@ impl<'a> Writer<'a> {
             return refuse(42, at);
         };
         self.next += 1;
-        if rows::seen(row, self.pool.len()).is_none() {
+        let [kind, a, b, under] = row;
+        if rows::seen(row, self.pool.len()).is_none() || under != node as u64 {
             return refuse(42, at);
         }
-        let [kind, a, b] = row;
         match (kind, this.kind) {
             (rows::NULL, _) if this.nullable => self.label(-1),
             (rows::ABSENT, _) if this.omittable => self.label(-2),
@@ -222,7 +224,7 @@ impl<'a> Writer<'a> {
     /// A STRING or BYTES: the number of the first equal literal, else a literal.
     fn labelled_bytes(&mut self, this: &WireType, value: &'a [u8]) {
         if this.deduplicate && self.modes & NO_DEDUPLICATION == 0 {
-            let room = self.rows.len() / 3 - self.next;
+            let room = self.rows.len() / rows::WORDS - self.next;
             let key = &mut self.keys[this.key as usize];
             if let Some(number) = key.number_of(value, self.search, room) {
                 return self.label(-4 - number as i64);

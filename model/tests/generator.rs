@@ -59,7 +59,7 @@ fn every_cell_of_the_label_matrix() {
             panic!("a reading case");
         };
         let got = match answer.number {
-            0 => Ok(rows[6]),
+            0 => Ok(rows[8]),
             number => Err(number),
         };
         assert_eq!(got, by_the_matrix(&cell), "{cell:?}");
@@ -104,7 +104,7 @@ fn headers_and_limits_are_reached() {
         };
         if answer.is_success() {
             headers.insert(message[0]);
-            rows = rows.max(read.len() / 3);
+            rows = rows.max(read.len() / 4);
             nodes = nodes.max((table.len() - 7) / 4);
             let chain = table[7..].chunks_exact(4);
             deep = deep.max(chain.take_while(|node| node[0] >= 7).count());
@@ -145,10 +145,10 @@ fn a_wrong_answer_is_seen() {
     let agrees = |line: &str| matches!(judge(line), Ok((_, Verdict::Agrees)));
     assert!(agrees("T 16384 - -> 10 0"));
     assert!(differs("T 16384 - -> 10 1"));
-    assert!(differs("P 0 6,0,1 41 -> -"));
-    assert!(agrees("L 0 0 4,7,0 -> 0 0 integer:7"));
-    assert!(differs("L 0 0 4,7,0 -> 51 0 -"));
-    let other = judge("L 0 0 4,7,0 -> 0 0 seven");
+    assert!(differs("P 0 6,0,1,0 41 -> -"));
+    assert!(agrees("L 0 0 4,7,0,3 -> 0 0 integer:7@3"));
+    assert!(differs("L 0 0 4,7,0,3 -> 51 0 -"));
+    let other = judge("L 0 0 4,7,0,3 -> 0 0 seven");
     assert!(matches!(other, Ok((_, Verdict::OtherWords(_)))));
     assert!(judge("X 1 2 -> 3").is_err());
     assert!(judge("T 16384 4 -> 10 0").is_err());

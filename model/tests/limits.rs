@@ -3,7 +3,7 @@
 mod common;
 
 use common::*;
-use model::gen::fixed::{array_chain, table_e, table_r, table_s};
+use model::gen::fixed::{array_chain, table_e, table_r, table_s, BEYOND};
 use model::rows::{look, part};
 use model::{label, read, table, write, WORK_WORDS};
 
@@ -294,13 +294,13 @@ fn the_order_at_one_value() {
     assert_eq!(answer(&nullable, b"\x00\x02\x00"), no(29));
     // Everything before 31, and 31 before the children.
     assert_eq!(read_lent(&text, b"\x00\x02\xff\x02\x02", 0).0, no(28));
-    assert_eq!(read_lent(&text, b"\x00\x02a\x02\x02", 2).0, no(31));
+    assert_eq!(read_lent(&text, b"\x00\x02a\x02\x02", 3).0, no(31));
     assert_eq!(read_lent(&integer, b"\x00\x02\x80\x00", 0).0, no(23));
-    assert_eq!(read_lent(&table_s(), b"\x00\x02\x02", 2).0, no(31));
-    assert_eq!(read_lent(&table_s(), b"\x00\x02\x01", 2).0, no(24));
+    assert_eq!(read_lent(&table_s(), b"\x00\x02\x02", 3).0, no(31));
+    assert_eq!(read_lent(&table_s(), b"\x00\x02\x01", 3).0, no(24));
     let record = [n(7, 0, 1), n(2, 0, 0)];
     assert_eq!(read_lent(&record, b"\x00\x00", 0).0, no(31));
-    assert_eq!(read_lent(&record, b"\x00\x00", 3).0, no(23));
+    assert_eq!(read_lent(&record, b"\x00\x00", 4).0, no(23));
     // A fault of the walk before 30.
     assert_eq!(answer(&text, b"\x00\x00\x02\x05"), no(24));
 }
@@ -308,24 +308,31 @@ fn the_order_at_one_value() {
 #[test]
 fn rows_lent() {
     let message = b"\x00\x04ok\x02\x01\x02\x04";
-    for lent in 0..=12 {
+    for lent in 0..=16 {
         let (answer, rows) = read_lent(&table_r(), message, lent);
-        if lent < 9 {
+        if lent < 12 {
             assert_eq!(answer, no(31));
             assert!(rows.iter().all(|&word| word == 0));
         } else {
             assert_eq!(answer, ok(3));
-            assert_eq!(rows[..9], [9, 2, 0, 6, 2, 2, 4, u64::MAX, 0]);
-            assert!(rows[9..].iter().all(|&word| word == 0));
+            assert_eq!(rows[..12], [9, 2, 0, 0, 6, 2, 2, 1, 4, u64::MAX, 0, 4]);
+            assert!(rows[12..].iter().all(|&word| word == 0));
         }
     }
     // No more than 8,192, whatever is lent.
-    let (answer, rows) = read_lent(&table_e(), b"\x00\x06\x80\x80\x01", 30_000);
+    let (answer, rows) = read_lent(&table_e(), b"\x00\x06\x80\x80\x01", 40_000);
     assert_eq!(answer, no(31));
     assert!(rows.iter().all(|&word| word == 0));
-    let (answer, rows) = read_lent(&table_e(), b"\x00\x04\xfe\x7f", 30_000);
+    let (answer, rows) = read_lent(&table_e(), b"\x00\x04\xfe\x7f", 40_000);
     assert_eq!(answer, ok(8_192));
-    assert!(rows[24_576..].iter().all(|&word| word == 0));
+    assert!(rows[32_768..].iter().all(|&word| word == 0));
+    for lent in [24_576, 32_764, 32_767] {
+        assert_eq!(read_lent(&table_e(), b"\x00\x04\xfe\x7f", lent).0, no(31));
+    }
+    assert_eq!(
+        read_lent(&table_e(), b"\x00\x04\xfe\x7f", 32_768).0,
+        ok(8_192)
+    );
 }
 
 #[test]
@@ -345,9 +352,9 @@ fn numbered_literals() {
     let message = texts(&vec![text; 4_097], 0);
     assert_eq!(answer(&plain, &message), ok(4_098));
     // 32 before 31, where the row would not fit either.
-    let rows = 3 * 4_097;
+    let rows = 4 * 4_097;
     assert_eq!(read_lent(&table_s(), &message, rows).0, no(32));
-    assert_eq!(read_lent(&table_s(), &message, rows - 3).0, no(31));
+    assert_eq!(read_lent(&table_s(), &message, rows - 4).0, no(31));
     // All keys together.
     let pair = [&[n(8, 0, 0), n(7, 0, 2)][..], &two_texts()].concat();
     for (pairs, wanted) in [(2_048, ok(6_145)), (2_049, no(32))] {
@@ -438,22 +445,26 @@ fn row_lists_and_pools() {
     let mut write = |rows: &[u64], pool: &[u8], modes| {
         write::write(&table, modes, rows, pool, &mut out, WORK_WORDS)
     };
-    assert_eq!(write(&[10, 0], b"", 2), no(40));
-    assert_eq!(write(&[10, 0], b"", 0), no(41));
-    assert_eq!(write(&[10, 0, 0, 0], b"", 0), no(41));
+    assert_eq!(write(&[10, 0, 0], b"", 2), no(40));
+    for words in [1, 2, 3, 5, 6, 7, 9] {
+        assert_eq!(write(&vec![0; words], b"", 0), no(41));
+    }
     assert_eq!(write(&[], b"", 0), no_at(42, 0));
-    assert_eq!(write(&[10, 0, 0], &[0; 65_536], 0), ok(3));
-    assert_eq!(write(&[10, 0, 0], &[0; 65_537], 0), no(41));
-    let many =
-        |count: usize| [&[10, count as u64 - 1, 0], &[9, 0, 0].repeat(count - 1)[..]].concat();
+    assert_eq!(write(&[10, 0, 0, 0], &[0; 65_536], 0), ok(3));
+    assert_eq!(write(&[10, 0, 0, 0], &[0; 65_537], 0), no(41));
+    let many = |count: usize| {
+        let entries = [9, 0, 0, 1].repeat(count - 1);
+        [&[10, count as u64 - 1, 0, 0], &entries[..]].concat()
+    };
     assert_eq!(write(&many(8_192), b"", 0), ok(4));
     assert_eq!(write(&many(8_193), b"", 0), no(41));
     // Missing gives the row count, left over the first row after the tree.
-    assert_eq!(write(&[10, 2, 0, 9, 0, 0], b"", 0), no_at(42, 2));
-    assert_eq!(write(&[10, 0, 0, 9, 0, 0], b"", 0), no_at(42, 1));
-    assert_eq!(write(&[10, 0, 0, 99, 9, 9], b"", 0), no_at(42, 1));
+    assert_eq!(write(&[10, 2, 0, 0, 9, 0, 0, 1], b"", 0), no_at(42, 2));
+    assert_eq!(write(&[10, 0, 0, 0, 9, 0, 0, 1], b"", 0), no_at(42, 1));
+    assert_eq!(write(&[10, 0, 0, 0, 99, 9, 9, 9], b"", 0), no_at(42, 1));
     // A faulty row before the missing one comes first.
-    assert_eq!(write(&[10, 9, 0, 9, 0, 0, 9, 1, 0], b"", 0), no_at(42, 2));
+    let faulty = [[10, 9, 0, 0], [9, 0, 0, 1], [9, 1, 0, 1]];
+    assert_eq!(write(&faulty.concat(), b"", 0), no_at(42, 2));
 }
 
 #[test]
@@ -587,51 +598,59 @@ fn looking_at_a_row() {
         assert_eq!(seen.is_some(), answer.is_success());
         answer.number
     };
-    let shown = |row: [u64; 3], bytes| look(&row, bytes, 0).1.map(|seen| seen.to_string());
+    let shown = |row: [u64; 4], bytes| look(&row, bytes, 0).1.map(|seen| seen.to_string());
     assert_eq!(number(&[], 0, 0), 50);
-    assert_eq!(number(&[0, 0], 0, 0), 50);
-    assert_eq!(number(&[0, 0, 0, 0, 0], 0, 1), 50);
-    for index in [1, 1 << 62, 1 << 63, u64::MAX / 3 + 1, u64::MAX] {
-        assert_eq!(number(&[0, 0, 0], 0, index), 50);
+    assert_eq!(number(&[0, 0, 0], 0, 0), 50);
+    assert_eq!(number(&[0; 7], 0, 1), 50);
+    for index in BEYOND.into_iter().chain([1]) {
+        assert_eq!(number(&[0; 4], 0, index), 50);
     }
     // 50 before 51: the row beyond is not looked at.
-    assert_eq!(number(&[99, 0, 0], 0, 1), 50);
-    assert_eq!(number(&[99, 0, 0], 0, 0), 51);
-    assert_eq!(number(&[11, 0, 0], 0, 0), 51);
+    assert_eq!(number(&[99, 0, 0, 0], 0, 1), 50);
+    assert_eq!(number(&[99, 0, 0, 0], 0, 0), 51);
+    assert_eq!(number(&[11, 0, 0, 0], 0, 0), 51);
     for kind in 0..=3 {
-        assert_eq!(number(&[kind, 0, 0], 0, 0), 0);
-        assert_eq!(number(&[kind, 1, 0], 0, 0), 51);
-        assert_eq!(number(&[kind, 0, 1], 0, 0), 51);
+        assert_eq!(number(&[kind, 0, 0, 0], 0, 0), 0);
+        assert_eq!(number(&[kind, 1, 0, 0], 0, 0), 51);
+        assert_eq!(number(&[kind, 0, 1, 0], 0, 0), 51);
     }
     for kind in [4, 5, 9, 10] {
-        assert_eq!(number(&[kind, u64::MAX, 0], 0, 0), 0);
-        assert_eq!(number(&[kind, 0, 1], 0, 0), 51);
+        assert_eq!(number(&[kind, u64::MAX, 0, 0], 0, 0), 0);
+        assert_eq!(number(&[kind, 0, 1, 0], 0, 0), 51);
     }
     for kind in 6..=8 {
-        assert_eq!(number(&[kind, 3, 2], 5, 0), 0);
-        assert_eq!(number(&[kind, 5, 0], 5, 0), 0);
-        assert_eq!(number(&[kind, 3, 3], 5, 0), 51);
-        assert_eq!(number(&[kind, 6, 0], 5, 0), 51);
-        assert_eq!(number(&[kind, u64::MAX, 1], 5, 0), 51);
-        assert_eq!(number(&[kind, 1 << 63, 1 << 63], 5, 0), 51);
+        assert_eq!(number(&[kind, 3, 2, 0], 5, 0), 0);
+        assert_eq!(number(&[kind, 5, 0, 0], 5, 0), 0);
+        assert_eq!(number(&[kind, 3, 3, 0], 5, 0), 51);
+        assert_eq!(number(&[kind, 6, 0, 0], 5, 0), 51);
+        assert_eq!(number(&[kind, u64::MAX, 1, 0], 5, 0), 51);
+        assert_eq!(number(&[kind, 1 << 63, 1 << 63, 0], 5, 0), 51);
     }
-    let lowest = "integer:-9223372036854775808";
-    assert_eq!(shown([4, 1 << 63, 0], 0).as_deref(), Some(lowest));
-    assert_eq!(shown([3, 0, 0], 0).as_deref(), Some("truth:True"));
-    let nan = [5, 0x7ff0_0000_0000_0001, 0];
-    let bits = look(&nan, 0, 0).1.map(|seen| seen.words());
+    let lowest = "integer:-9223372036854775808@9";
+    assert_eq!(shown([4, 1 << 63, 0, 9], 0).as_deref(), Some(lowest));
+    assert_eq!(shown([3, 0, 0, 0], 0).as_deref(), Some("truth:True@0"));
+    let nan = [5, 0x7ff0_0000_0000_0001, 0, 1];
+    let bits = look(&nan, 0, 0).1.map(|seen| seen.row());
     assert_eq!(bits, Some(nan));
 }
 
 #[test]
 fn the_part_of_a_row() {
     let bytes = b"hello";
-    let rows = [6, 1, 3, 7, 5, 0, 8, 0, 5, 9, 1, 0, 6, 1, 5, 6, 0];
-    assert_eq!(part(&rows, bytes, 0), b"ell");
-    assert_eq!(part(&rows, bytes, 1), b"");
-    assert_eq!(part(&rows, bytes, 2), b"hello");
+    let rows = [
+        [6, 1, 3, 0],
+        [7, 5, 0, 1],
+        [8, 0, 5, 2],
+        [9, 1, 0, 3],
+        [6, 1, 5, 4],
+        [6, 0, 5, 0],
+    ];
+    let rows = &rows.concat()[..23];
+    assert_eq!(part(rows, bytes, 0), b"ell");
+    assert_eq!(part(rows, bytes, 1), b"");
+    assert_eq!(part(rows, bytes, 2), b"hello");
     // A count, a place outside, a row not whole, a row not there.
-    for index in [3, 4, 5, 6, 1 << 63, u64::MAX] {
-        assert_eq!(part(&rows, bytes, index), b"");
+    for index in [3, 4, 5, 6].into_iter().chain(BEYOND) {
+        assert_eq!(part(rows, bytes, index), b"");
     }
 }

@@ -8,7 +8,7 @@ use model::write::{write_by, Search};
 fn both_searches_write_the_same_message() {
     let mut cases = Cases::new(5, "W");
     let mut named = 0;
-    for _ in 0..4_000 {
+    for _ in 0..6_000 {
         let case = cases.next_case();
         let Case::Write {
             work,

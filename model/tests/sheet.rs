@@ -150,7 +150,7 @@ fn a_backreference_can_be_longer() {
     let pool: Vec<u8> = (1..=61).collect();
     let written = message_of(&nodes, 0, &rows, &pool);
     let types = table::wire_types(&nodes);
-    let spellings = spell::all(&types, &rows.concat(), &pool, 0);
+    let spellings = spell::all(&types, &under(&nodes, &rows).concat(), &pool, 0);
     let least = spellings.iter().map(Vec::len).min();
     assert_eq!(spellings.len(), 2);
     assert_eq!(Some(written.1.len()), least);

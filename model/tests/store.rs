@@ -32,7 +32,7 @@ fn stored_cases_reach_every_refusal() {
         .iter()
         .flat_map(|&number| ['T', 'R', 'W'].map(|kind| (kind, number)))
         .chain((20..=32).map(|number| ('R', number)))
-        .chain([28, 40, 41, 42, 43].map(|number| ('W', number)))
+        .chain([28, 32, 40, 41, 42, 43].map(|number| ('W', number)))
         .chain([0, 50, 51].map(|number| ('L', number)));
     let missing: Vec<_> = expected.filter(|pair| !reached.contains(pair)).collect();
     assert!(missing.is_empty(), "{missing:?}");
@@ -56,14 +56,14 @@ fn the_sample_has_every_wrapping() {
     let (table, message) = (sample::table(), sample::message());
     let case = Case::Read {
         work: model::WORK_WORDS,
-        rows: 3 * 8_192,
+        rows: 4 * 8_192,
         table,
         message,
     };
     let reply = case.answer().to_string();
-    assert!(reply.starts_with("0 25 10,4,0,9,5,0,6,"), "{reply}");
+    assert!(reply.starts_with("0 25 10,4,0,0,9,5,0,1,6,"), "{reply}");
     // An absent number, a null note and an empty one.
-    for row in [",1,0,0,", ",0,0,0,", ",0,6,"] {
+    for row in [",1,0,0,9,", ",0,0,0,6,", ",0,6,4,"] {
         assert!(reply.contains(row), "{row} in {reply}");
     }
 }

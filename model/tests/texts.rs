@@ -113,14 +113,14 @@ fn the_place_of_28() {
     assert_eq!(answer(&s, b"\x00\x04\xc0\xaf\x04\x04\x04"), no(28));
     assert_eq!(answer(&s, b"\x00\x06\xc0\xafx\x04\x02\x04"), no(28));
     // Before 31 and 32.
-    assert_eq!(read_lent(&s, b"\x00\x04\xc0\xaf\x04\x02\x04", 3).0, no(28));
-    assert_eq!(read_lent(&s, b"\x00\x04\xc2\xaf\x04\x02\x04", 3).0, no(31));
+    assert_eq!(read_lent(&s, b"\x00\x04\xc0\xaf\x04\x02\x04", 4).0, no(28));
+    assert_eq!(read_lent(&s, b"\x00\x04\xc2\xaf\x04\x02\x04", 4).0, no(31));
     for (last, wanted) in [(b"\xed\x9f\xbf", no(32)), (b"\xed\xa0\x80", no(28))] {
         let mut texts = vec![&b""[..]; 4_096];
         texts.push(last);
         for modes in [0, 1] {
             let message = message(&texts, modes);
-            assert_eq!(read_lent(&s, &message, 3 * 4_097).0, wanted);
+            assert_eq!(read_lent(&s, &message, 4 * 4_097).0, wanted);
         }
     }
     // Under NULLABLE, and the writer's row.
@@ -165,7 +165,7 @@ fn fixed_cases_have_both_answers() {
 
 #[test]
 fn all_chosen_cases_are_stored() {
-    let stored = Store::new(1, "RW", 4, Vec::new());
+    let stored = Store::new(1, "RW", 6, Vec::new());
     assert_eq!(stored.left_out, 0);
     let stored = decode(&stored.file).unwrap();
     for case in chosen() {
@@ -178,7 +178,7 @@ fn generated_texts_are_often_near_a_bound() {
     let mut cases = Cases::new(3, "RW");
     let mut refused = [0; 2];
     let mut others = [0; 2];
-    for _ in 0..20_000 {
+    for _ in 0..25_000 {
         let case = cases.next_case();
         let kind = usize::from(matches!(case, Case::Write { .. }));
         match case.answer().answer() {

@@ -1,8 +1,10 @@
 //! Damage to what was sound: bytes, nodes, rows, and messages piece by piece.
 
+use super::nodes::EDGE_NODES;
 use super::trees::EDGE_WORDS;
 use crate::label;
 use crate::rng::Rng;
+use crate::rows::WORDS;
 use crate::spell::Pieces;
 use crate::table::{self, Node};
 
@@ -106,32 +108,53 @@ pub fn nodes(rng: &mut Rng, nodes: &mut Vec<Node>) {
 
 /// One change in a row list.
 pub fn rows(rng: &mut Rng, rows: &mut Vec<u64>) {
-    let count = rows.len() / 3;
+    let count = rows.len() / WORDS;
     let row = rng.below(count);
     let word = rng.below(rows.len());
-    match rng.below(9) {
-        0 if count > 0 => rows[3 * row] = rng.below(13) as u64,
+    match rng.below(12) {
+        0 if count > 0 => rows[WORDS * row] = rng.below(13) as u64,
         1 if count > 0 => rows[word] = rng.pick(&EDGE_WORDS),
         2 if count > 0 => rows[word] = rows[word].wrapping_add(1),
         3 if count > 0 => rows[word] = rows[word].wrapping_sub(1),
         4 if count > 0 => {
-            rows.drain(3 * row..3 * row + 3);
+            rows.drain(WORDS * row..WORDS * (row + 1));
         }
         5 => {
-            let at = 3 * rng.below(count + 1);
+            let at = WORDS * rng.below(count + 1);
             let kind = rng.below(11) as u64;
-            rows.splice(at..at, [kind, 0, 0]);
+            // Often the node of the row before, as a further entry of an array would have.
+            let node = match at {
+                0 => 0,
+                _ => rows[at - 1],
+            };
+            rows.splice(at..at, [kind, 0, 0, node]);
         }
-        6 => rows.truncate(3 * row),
+        6 => rows.truncate(WORDS * row),
         7 if rng.one_in(3) => rows.truncate(word),
+        8..=10 if count > 0 => node(rng, rows, row),
         _ if count > 0 => {
             let other = rng.below(count);
-            for i in 0..3 {
-                rows.swap(3 * row + i, 3 * other + i);
+            for i in 0..WORDS {
+                rows.swap(WORDS * row + i, WORDS * other + i);
             }
         }
         _ => rows.push(0),
     }
+}
+
+/// Another node in a row: one nearby, one of another row, one at a limit, or one that is equal in its low bits.
+fn node(rng: &mut Rng, rows: &mut [u64], row: usize) {
+    let count = rows.len() / WORDS;
+    let other = WORDS * rng.below(count) + 3;
+    let at = WORDS * row + 3;
+    rows[at] = match rng.below(6) {
+        0 => rows[at].wrapping_add(1 + rng.below(2) as u64),
+        1 => rows[at].wrapping_sub(1 + rng.below(2) as u64),
+        2 => rows[other],
+        3 => rng.pick(&EDGE_NODES),
+        4 => rows[at].wrapping_add(1 << rng.pick(&[8, 10, 16, 32, 63])),
+        _ => 0,
+    };
 }
 
 /// One change inside the pieces, whose own labels follow it. Faults of the walk

@@ -2,15 +2,24 @@
 //! sides of the limits that small cases can reach.
 
 use super::damage::{EDGE_LABELS, NO_LABELS};
-use super::texts;
 use super::trees::EDGE_WORDS;
+use super::{nodes, texts};
 use crate::case::Case;
-use crate::small::text_record;
+use crate::small::{text_field, text_record};
 use crate::table::{self, file, Node, WireType};
 use crate::{label, rows, spell, INLINE_EVERYTHING, MAX_NODES, MAX_PATH, MODES, WORK_WORDS};
 
 /// Rows enough for every message.
-pub const ROWS: usize = 3 * 8_192;
+pub const ROWS: usize = rows::WORDS * 8_192;
+/// Row numbers beyond all rows, some of which would wrap to a row that is there.
+pub const BEYOND: [u64; 6] = [
+    1 << 61,
+    1 << 62,
+    1 << 63,
+    (1 << 62) + 1,
+    u64::MAX / 3 + 1,
+    u64::MAX,
+];
 /// Output enough for every message.
 pub const OUT: usize = 65_536;
 /// The eight headers that are read.
@@ -243,6 +252,7 @@ pub fn cases(kind: char) -> Vec<Case> {
         _ => parts(&mut cases),
     }
     cases.extend(texts::cases(kind));
+    cases.extend(nodes::cases(kind));
     cases
 }
 
@@ -454,6 +464,33 @@ pub fn sheet() -> Vec<Case> {
         };
         cases.push(read(&texts, &pieces.message()));
     }
+    // It is written with the last text named, and does not fit where the other one would.
+    let mut list = vec![rows::RECORD, 63, 0, 0];
+    for i in 0..63 {
+        list.extend([rows::STRING, i.min(61), 1, text_field(i)]);
+    }
+    for out in [129, 130] {
+        cases.push(Case::Write {
+            work: WORK_WORDS,
+            out,
+            modes: 0,
+            table: file(&texts),
+            rows: list.clone(),
+            pool: (1..=62).collect(),
+        });
+    }
+    // Each key names its own texts, and none of the other's.
+    let text = |start, node| [rows::STRING, start, 1, node];
+    let list = [
+        [rows::RECORD, 4, 0, 0],
+        text(0, 1),
+        text(1, 3),
+        text(2, 5),
+        text(3, 7),
+    ];
+    for pool in [b"abab", b"aaaa", b"abba"] {
+        cases.push(write(&two_keys, 0, &list.concat(), pool));
+    }
     cases
 }
 
@@ -491,7 +528,7 @@ fn messages(cases: &mut Vec<Case>) {
         }
     }
     // Short and lent-just-enough rows; too little work.
-    for rows in 0..=12 {
+    for rows in 0..=16 {
         cases.push(Case::Read {
             work: WORK_WORDS,
             rows,
@@ -523,42 +560,50 @@ fn messages(cases: &mut Vec<Case>) {
 
 /// Trees for the writer's fixed cases: table, rows, pool.
 pub fn base_trees() -> Vec<(Vec<Node>, Vec<u64>, Vec<u8>)> {
-    let text = |start, len| [rows::STRING, start, len];
+    let text = |start, len| [rows::STRING, start, len, 1];
     let all_rows = [
-        [rows::RECORD, 8, 0],
+        [rows::RECORD, 8, 0, 0],
         text(0, 2),
-        [rows::TRUE, 0, 0],
-        [rows::INTEGER, u64::MAX, 0],
-        [rows::FLOAT, 0x7ff8_0000_0000_0001, 0],
-        [rows::BYTES, 1, 3],
-        [rows::FIXED, 2, 3],
-        [rows::ARRAY, 3, 0],
-        [rows::RECORD, 1, 0],
-        text(4, 2),
-        [rows::NULL, 0, 0],
-        [rows::RECORD, 1, 0],
-        [rows::ABSENT, 0, 0],
-        text(6, 0),
+        [rows::TRUE, 0, 0, 3],
+        [rows::INTEGER, u64::MAX, 0, 4],
+        [rows::FLOAT, 0x7ff8_0000_0000_0001, 0, 6],
+        [rows::BYTES, 1, 3, 9],
+        [rows::FIXED, 2, 3, 12],
+        [rows::ARRAY, 3, 0, 14],
+        [rows::RECORD, 1, 0, 15],
+        [rows::STRING, 4, 2, 17],
+        [rows::NULL, 0, 0, 15],
+        [rows::RECORD, 1, 0, 15],
+        [rows::ABSENT, 0, 0, 17],
+        [rows::STRING, 6, 0, 19],
     ];
     vec![
         (
             table_r(),
-            vec![9, 2, 0, 6, 0, 2, 4, u64::MAX, 0],
+            vec![9, 2, 0, 0, 6, 0, 2, 1, 4, u64::MAX, 0, 4],
             b"ok".to_vec(),
         ),
-        (table_r(), vec![9, 2, 0, 0, 0, 0, 4, 5, 0], Vec::new()),
+        (
+            table_r(),
+            vec![9, 2, 0, 0, 0, 0, 0, 1, 4, 5, 0, 4],
+            Vec::new(),
+        ),
         (
             table_s(),
-            [[10, 3, 0], text(0, 6), text(6, 6), text(12, 6)].concat(),
+            [[10, 3, 0, 0], text(0, 6), text(6, 6), text(12, 6)].concat(),
             b"PASSEDKILLEDPASSED".to_vec(),
         ),
         (
             table_s(),
-            [[10, 3, 0], text(1, 0), text(0, 1), text(0, 0)].concat(),
+            [[10, 3, 0, 0], text(1, 0), text(0, 1), text(0, 0)].concat(),
             b"A".to_vec(),
         ),
-        (table_s(), vec![10, 0, 0], Vec::new()),
-        (table_e(), vec![10, 2, 0, 9, 0, 0, 9, 0, 0], Vec::new()),
+        (table_s(), vec![10, 0, 0, 0], Vec::new()),
+        (
+            table_e(),
+            vec![10, 2, 0, 0, 9, 0, 0, 1, 9, 0, 0, 1],
+            Vec::new(),
+        ),
         (table_all(), all_rows.concat(), b"ababab".to_vec()),
     ]
 }
@@ -590,7 +635,7 @@ fn row_lists(cases: &mut Vec<Case>) {
             }
             cases.push(write(&nodes, 0, &rows[..at], &pool));
         }
-        for more in [&[0][..], &[0, 0, 0], &[9, 9, 9], &[99, 1, 1]] {
+        for more in [&[0][..], &[0, 0, 0], &[0; 4], &[9, 9, 9, 9], &[99, 1, 1, 1]] {
             let rows = [&rows, more].concat();
             cases.push(write(&nodes, 4, &rows, &pool));
         }
@@ -613,10 +658,12 @@ fn row_lists(cases: &mut Vec<Case>) {
     for bad in [&b"\x80"[..], b"\xc3", b"\xe2\x82", b"\xf8\x80\x80\x80"] {
         let len = bad.len() as u64;
         // 28 alone; a 42 in a later row; a place too far in the same row.
-        cases.push(write(&s, 0, &[10, 1, 0, 6, 0, len], bad));
-        cases.push(write(&s, 0, &[10, 2, 0, 6, 0, len, 6, 0, 9], bad));
-        cases.push(write(&s, 0, &[10, 1, 0, 6, 0, len + 1], bad));
-        cases.push(write(&s, 0, &[10, 2, 0, 6, 0, len], bad));
+        let (one, two) = ([10, 1, 0, 0], [10, 2, 0, 0]);
+        let text = |len| [6, 0, len, 1];
+        cases.push(write(&s, 0, &[one, text(len)].concat(), bad));
+        cases.push(write(&s, 0, &[two, text(len), text(9)].concat(), bad));
+        cases.push(write(&s, 0, &[one, text(len + 1)].concat(), bad));
+        cases.push(write(&s, 0, &[two, text(len)].concat(), bad));
     }
 }
 
@@ -629,18 +676,18 @@ fn looks(cases: &mut Vec<Case>) {
                     cases.push(Case::Look {
                         bytes,
                         index: 0,
-                        rows: vec![kind, a, b],
+                        rows: vec![kind, a, b, a % 3],
                     });
                 }
             }
         }
     }
-    for len in 0..10 {
-        for index in [0, 1, 2, 3, 1 << 62, 1 << 63, u64::MAX / 3 + 1, u64::MAX] {
+    for len in 0..13 {
+        for index in (0..4).chain(BEYOND) {
             cases.push(Case::Look {
                 bytes: 2,
                 index,
-                rows: (0..len).map(|i| [6, 1, 1][i % 3]).collect(),
+                rows: (0..len).map(|i| [6, 1, 1, 7][i % 4]).collect(),
             });
         }
     }
@@ -649,7 +696,7 @@ fn looks(cases: &mut Vec<Case>) {
             cases.push(Case::Look {
                 bytes: 0,
                 index: 1,
-                rows: vec![99, 1, 1, kind, a, 0],
+                rows: vec![99, 1, 1, 1, kind, a, 0, 1],
             });
         }
     }
@@ -657,7 +704,7 @@ fn looks(cases: &mut Vec<Case>) {
         cases.push(Case::Look {
             bytes: 0,
             index: 0,
-            rows: vec![rows::FLOAT, bits, 0],
+            rows: vec![rows::FLOAT, bits, 0, 2],
         });
     }
 }
@@ -670,18 +717,18 @@ fn parts(cases: &mut Vec<Case>) {
                 for data in [&b""[..], b"x", b"hello"] {
                     cases.push(Case::Part {
                         index: 0,
-                        rows: vec![kind, a, b],
+                        rows: vec![kind, a, b, a % 3],
                         data: data.to_vec(),
                     });
                 }
             }
         }
     }
-    for len in 0..10 {
-        for index in [0, 1, 2, 3, 1 << 62, 1 << 63, u64::MAX / 3 + 1, u64::MAX] {
+    for len in 0..13 {
+        for index in (0..4).chain(BEYOND) {
             cases.push(Case::Part {
                 index,
-                rows: (0..len).map(|i| [6, 1, 1][i % 3]).collect(),
+                rows: (0..len).map(|i| [6, 1, 1, 7][i % 4]).collect(),
                 data: b"hi".to_vec(),
             });
         }

@@ -15,9 +15,11 @@ pub fn cases() -> Vec<Case> {
     most_rows(&mut cases);
     most_literals(&mut cases);
     one_byte_numbers(&mut cases);
+    integers(&mut cases);
     deepest_path(&mut cases);
     all_keys(&mut cases);
     longest_outputs(&mut cases);
+    most_values(&mut cases);
     bad_tables(&mut cases);
     cases
 }
@@ -81,7 +83,7 @@ fn longest_messages(cases: &mut Vec<Case>) {
 fn most_rows(cases: &mut Vec<Case>) {
     for entries in [MAX_ROWS - 2, MAX_ROWS - 1, MAX_ROWS] {
         let case = read(&table_e(), &assemble(0, vec![], labelled(entries)));
-        for rows in [ROWS - 3, ROWS - 1, ROWS, ROWS + 2, ROWS + 3] {
+        for rows in [3 * MAX_ROWS, ROWS - 4, ROWS - 1, ROWS, ROWS + 3, ROWS + 4] {
             cases.push(lent(case.clone(), rows));
         }
     }
@@ -100,8 +102,8 @@ fn most_literals(cases: &mut Vec<Case>) {
         cases.push(read(&plain, &alike(b"", count, 0)));
         // 32 before 31, where the row would not fit either.
         let case = read(&table_s(), &alike(b"", count, 0));
-        cases.push(lent(case.clone(), 3 * MAX_NUMBERED));
-        cases.push(lent(case, 3 * MAX_NUMBERED + 3));
+        cases.push(lent(case.clone(), rows::WORDS * MAX_NUMBERED));
+        cases.push(lent(case, rows::WORDS * (MAX_NUMBERED + 1)));
     }
     let inline = alike(b"t", MAX_NUMBERED + 1, INLINE_EVERYTHING);
     cases.push(read(&table_s(), &inline));
@@ -120,15 +122,61 @@ fn most_literals(cases: &mut Vec<Case>) {
     }
 }
 
-/// The 61st number is the last of one byte; a number that has not been given is 26.
+/// The 61st number is the last of one byte; a number that has not been given is 26. Written, the last of so many
+/// different texts comes again, and the first, whether it has no byte, one or two.
 fn one_byte_numbers(cases: &mut Vec<Case>) {
     for literals in [60, 61, 62, 63] {
+        for len in 0..3 {
+            let text = |i: usize, len| [rows::STRING, 2 * i as u64, len, 1];
+            let last = text(literals - 1, len);
+            let mut list = vec![[rows::ARRAY, literals as u64 + 2, 0, 0]];
+            list.extend((0..literals - 1).map(|i| text(i, 2)));
+            list.extend([last, last, text(0, 2)]);
+            let pool = (0..literals as u8).flat_map(|i| [i, b'x']).collect();
+            cases.push(Case::Write {
+                work: WORK_WORDS,
+                out: 300,
+                modes: 0,
+                table: file(&table_s()),
+                rows: list.concat(),
+                pool,
+            });
+        }
         for number in literals - 1..=literals {
             let mut core = labelled(literals + 1);
             core.extend(vec![2; literals]);
             label::put(-4 - number as i64, &mut core);
             let block = (0..literals as u8).collect();
             cases.push(read(&table_s(), &assemble(0, vec![block], core)));
+        }
+    }
+}
+
+/// Integers on both sides of each size of a label, read and written.
+fn integers(cases: &mut Vec<Case>) {
+    let nodes = [
+        Node::new(table::BLOCK, 0, 0),
+        Node::new(table::VARINT, 0, 0),
+    ];
+    let mut integers = vec![0, i64::MIN, i64::MAX];
+    for size in 1..=9 {
+        let edge = 1 << (7 * size - 1);
+        integers.extend([edge - 1, edge, -edge, -edge - 1]);
+    }
+    for n in integers {
+        let mut message = vec![2];
+        label::put(n, &mut message);
+        cases.push(read(&nodes, &message));
+        let row = [rows::INTEGER, n as u64, 0, 0];
+        for modes in [0, INLINE_EVERYTHING] {
+            cases.push(Case::Write {
+                work: WORK_WORDS,
+                out: 14,
+                modes: modes as u128,
+                table: file(&nodes),
+                rows: row.to_vec(),
+                pool: Vec::new(),
+            });
         }
     }
 }
@@ -158,9 +206,9 @@ fn all_keys(cases: &mut Vec<Case>) {
     }
 }
 
-/// 41, 32 and 43 at their limits.
+/// 41 and 43 at their limits.
 fn longest_outputs(cases: &mut Vec<Case>) {
-    let text = |start: usize, len: usize| [rows::STRING, start as u64, len as u64];
+    let text = |start: usize, len: usize| [rows::STRING, start as u64, len as u64, 1];
     let write = |nodes: &[Node], out, rows: Vec<u64>, pool: Vec<u8>| Case::Write {
         work: WORK_WORDS,
         out,
@@ -170,19 +218,47 @@ fn longest_outputs(cases: &mut Vec<Case>) {
         pool,
     };
     for entries in [MAX_ROWS - 1, MAX_ROWS] {
-        let mut list = vec![rows::ARRAY, entries as u64, 0];
-        list.extend([rows::RECORD, 0, 0].repeat(entries));
+        let mut list = vec![rows::ARRAY, entries as u64, 0, 0];
+        list.extend([rows::RECORD, 0, 0, 1].repeat(entries));
         cases.push(write(&table_e(), OUT, list, Vec::new()));
     }
     for pool in [MAX_BYTES, MAX_BYTES + 1] {
-        let list = [[rows::ARRAY, 1, 0], text(0, 1)].concat();
+        let list = [[rows::ARRAY, 1, 0, 0], text(0, 1)].concat();
         cases.push(write(&table_s(), OUT, list, vec![b'p'; pool]));
     }
     for size in [MAX_BYTES - 9, MAX_BYTES - 8] {
         for out in [OUT - 1, OUT, OUT + 1] {
-            let list = [[rows::ARRAY, 1, 0], text(0, size)].concat();
+            let list = [[rows::ARRAY, 1, 0, 0], text(0, size)].concat();
             cases.push(write(&table_s(), out, list, vec![b'p'; size]));
         }
+    }
+}
+
+/// 32 in the writer: 4,096 different values and one more; and a fault of the very last row comes before it.
+fn most_values(cases: &mut Vec<Case>) {
+    // Each place in this pool has other bytes than all before it, and its words are small.
+    let pool: Vec<u8> = (0..=255).map(|i: u8| i % 128).collect();
+    let places = (1..=128).flat_map(|len| (0..128).map(move |start| [start, len]));
+    let places: Vec<[u64; 2]> = places.take(MAX_NUMBERED + 1).collect();
+    for (count, node) in [
+        (MAX_NUMBERED, 1),
+        (MAX_NUMBERED + 1, 1),
+        (MAX_NUMBERED + 1, 2),
+    ] {
+        let mut list = vec![rows::ARRAY, count as u64, 0, 0];
+        let texts = places[..count].iter();
+        list.extend(texts.flat_map(|[a, b]| [rows::STRING, *a, *b, 1]));
+        let last = list.len() - 1;
+        list[last] = node;
+        // There is no room, so that the message need not be stored.
+        cases.push(Case::Write {
+            work: WORK_WORDS,
+            out: 9,
+            modes: 0,
+            table: file(&table_s()),
+            rows: list,
+            pool: pool.clone(),
+        });
     }
 }
 

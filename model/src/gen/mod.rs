@@ -3,6 +3,7 @@
 pub mod damage;
 pub mod fixed;
 pub mod limits;
+pub mod nodes;
 pub mod texts;
 pub mod trees;
 
@@ -88,7 +89,7 @@ impl Cases {
 fn vary(rng: &mut Rng, case: &mut Case) {
     match case {
         Case::Read { rows, .. } if *rows == ROWS => {
-            *rows = rng.pick(&[200, 200, 201, 202, 1, 6, 9, 10, ROWS, ROWS + 5])
+            *rows = rng.pick(&[200, 200, 201, 202, 203, 1, 7, 8, 11, 12, 13, ROWS, ROWS + 5])
         }
         Case::Write { out, .. } if *out == OUT => *out = rng.pick(&[300, 300, 299, OUT, OUT + 1]),
         _ => {}
@@ -185,14 +186,15 @@ fn fuel(rng: &mut Rng) -> usize {
 
 /// Lent 64-bit words for a tree of `count` rows: just enough, short, or ample.
 fn lent_rows(rng: &mut Rng, count: usize) -> usize {
+    let whole = rows::WORDS * count;
     match rng.below(16) {
-        0 => 3 * count,
-        1 => (3 * count).saturating_sub(1 + rng.below(3)),
-        2 => rng.below(3 * count + 1),
-        3 => 3 * count + 1 + rng.below(2),
+        0 => whole,
+        1 => whole.saturating_sub(1 + rng.below(rows::WORDS)),
+        2 => rng.below(whole + 1),
+        3 => whole + 1 + rng.below(rows::WORDS - 1),
         4 if rng.one_in(4) => ROWS + rng.below(8),
-        5 => 0,
-        _ => 3 * count + rng.below(40),
+        5 => rng.pick(&[0, 3 * count]),
+        _ => whole + rng.below(40),
     }
 }
 
@@ -229,7 +231,7 @@ fn read(rng: &mut Rng) -> Case {
     }
     Case::Read {
         work: work(rng),
-        rows: lent_rows(rng, tree.rows.len() / 3),
+        rows: lent_rows(rng, tree.rows.len() / rows::WORDS),
         table,
         message,
     }
@@ -284,7 +286,7 @@ fn write(rng: &mut Rng) -> Case {
 
 fn index(rng: &mut Rng) -> u64 {
     match rng.below(8) {
-        0 => rng.pick(&[1 << 62, 1 << 63, u64::MAX / 3 + 1, u64::MAX]),
+        0 => rng.pick(&fixed::BEYOND),
         _ => rng.below(3) as u64,
     }
 }
@@ -304,8 +306,13 @@ fn loose_rows(rng: &mut Rng) -> Vec<u64> {
             _ => 0,
         };
         words.extend([kind as u64, word(), word()]);
+        words.push(match rng.below(6) {
+            0 => rng.pick(&nodes::EDGE_NODES),
+            1 => rng.pick(&trees::EDGE_WORDS),
+            _ => rng.below(MAX_NODES) as u64,
+        });
     }
-    words.extend(vec![0; rng.below(3)]);
+    words.extend(vec![0; rng.below(rows::WORDS)]);
     words
 }
 
@@ -400,10 +407,11 @@ fn big_read(rng: &mut Rng) -> Case {
             ROWS,
             ROWS,
             ROWS - 1,
-            ROWS - 3,
-            ROWS + 4,
-            3 * MAX_NUMBERED,
-            3 * MAX_NUMBERED + 3,
+            ROWS - 4,
+            ROWS + 5,
+            3 * MAX_ROWS,
+            rows::WORDS * MAX_NUMBERED,
+            rows::WORDS * (MAX_NUMBERED + 1),
         ]),
         table: file(&nodes),
         message,
@@ -428,13 +436,13 @@ fn wide_table(rng: &mut Rng) -> Vec<Node> {
 fn big_write(rng: &mut Rng) -> Case {
     let any_modes = modes(rng);
     let inline = any_modes & 1 != 0;
-    let text = |start: usize, len: usize| [rows::STRING, start as u64, len as u64];
+    let text = |start: usize, len: usize| [rows::STRING, start as u64, len as u64, 1];
     let (nodes, rows, pool) = match rng.below(6) {
         // Rows up to the limit and past it.
         0 => {
             let entries = near(rng, MAX_ROWS - 1);
-            let mut rows = vec![rows::ARRAY, entries as u64, 0];
-            rows.extend([rows::RECORD, 0, 0].repeat(entries));
+            let mut rows = vec![rows::ARRAY, entries as u64, 0, 0];
+            rows.extend([rows::RECORD, 0, 0, 1].repeat(entries));
             (fixed::table_e(), rows, Vec::new())
         }
         // Different values up to the limit and past it, and repeats of some.
@@ -444,7 +452,7 @@ fn big_write(rng: &mut Rng) -> Case {
             let pool: Vec<u8> = (0..different)
                 .flat_map(|i| [b'a' + (i % 64) as u8 / 4, (i / 64) as u8, (i % 64) as u8])
                 .collect();
-            let mut rows = vec![rows::ARRAY, (different + repeats) as u64, 0];
+            let mut rows = vec![rows::ARRAY, (different + repeats) as u64, 0, 0];
             rows.extend((0..different).flat_map(|i| text(3 * i, 3)));
             rows.extend((0..repeats).flat_map(|_| text(3 * rng.below(different), 3)));
             (fixed::table_s(), rows, pool)
@@ -455,21 +463,21 @@ fn big_write(rng: &mut Rng) -> Case {
             let shell = if inline { 5 } else { 9 };
             let extra = rng.pick(&[0, shell, shell + 1]);
             let pool = vec![b'p'; size - shell + extra];
-            let rows = [[rows::ARRAY, 1, 0], text(0, size - shell)].concat();
+            let rows = [[rows::ARRAY, 1, 0, 0], text(0, size - shell)].concat();
             (fixed::table_s(), rows, pool)
         }
         // One long text, of any characters.
         4 => {
             let len = rng.below(60_000);
             let pool = texts::near_in(rng, len);
-            let rows = [[rows::ARRAY, 1, 0], text(0, pool.len())].concat();
+            let rows = [[rows::ARRAY, 1, 0, 0], text(0, pool.len())].concat();
             (fixed::table_s(), rows, pool)
         }
         // The same long places again and again: far over the limit, unless named.
         _ => {
             let pool = vec![b'q'; 3_000];
             let entries = 40 + rng.below(200);
-            let mut rows = vec![rows::ARRAY, entries as u64, 0];
+            let mut rows = vec![rows::ARRAY, entries as u64, 0, 0];
             for _ in 0..entries {
                 let len = rng.pick(&[2_900, 2_901, 10]);
                 rows.extend(text(rng.below(99), len));

@@ -138,10 +138,10 @@ pub fn message(texts: &[&[u8]], modes: u64) -> Vec<u8> {
 
 /// Rows of these texts, which follow each other in their pool.
 fn list(kind: u64, texts: &[&[u8]]) -> Vec<u64> {
-    let mut list = vec![rows::ARRAY, texts.len() as u64, 0];
+    let mut list = vec![rows::ARRAY, texts.len() as u64, 0, 0];
     let mut start = 0;
     for text in texts {
-        list.extend([kind, start, text.len() as u64]);
+        list.extend([kind, start, text.len() as u64, 1]);
         start += text.len() as u64;
     }
     list
@@ -197,8 +197,12 @@ fn alone(cases: &mut Vec<Case>) {
         cases.push(read(&table_plain(), &message(&[text], 0)));
         let blocks = vec![text.to_vec(), vec![1]];
         cases.push(read(&table_r(), &assemble(0, blocks, vec![6])));
-        let job = [rows::RECORD, 2, 0, rows::STRING, 0, 3, rows::INTEGER, 1, 0];
-        cases.push(write(&table_r(), 0, &job, text));
+        let job = [
+            [rows::RECORD, 2, 0, 0],
+            [rows::STRING, 0, 3, 1],
+            [rows::INTEGER, 1, 0, 4],
+        ];
+        cases.push(write(&table_r(), 0, &job.concat(), text));
     }
 }
 
@@ -213,14 +217,14 @@ fn beside_others(cases: &mut Vec<Case>) {
             cases.push(read(&s, &message(&[front, back], INLINE_EVERYTHING)));
             cases.push(written(0, &[front, back]));
             // The rest stands in the pool, but not in the text.
-            let short = [rows::ARRAY, 1, 0, rows::STRING, 0, at as u64];
+            let short = [rows::ARRAY, 1, 0, 0, rows::STRING, 0, at as u64, 1];
             cases.push(write(&s, 0, &short, right));
         }
         // Bytes that are wrong on both sides of the place; a text whose bytes overlap another's.
         let size = right.len() as u64;
-        let inner = [rows::ARRAY, 1, 0, rows::STRING, 1, size];
+        let inner = [rows::ARRAY, 1, 0, 0, rows::STRING, 1, size, 1];
         cases.push(write(&s, 0, &inner, &[b"\xe1", right, b"\x80"].concat()));
-        let twice = [&inner[..], &[rows::STRING, 2, size - 1]].concat();
+        let twice = [&inner[..], &[rows::STRING, 2, size - 1, 1]].concat();
         let twice = [&[rows::ARRAY, 2], &twice[2..]].concat();
         cases.push(write(&s, 0, &twice, &[b"\xe1", right, b"\x80"].concat()));
         cases.push(read(&s, &message(&[right, b"\x80"], 0)));
@@ -273,7 +277,7 @@ fn order_in_the_reader(cases: &mut Vec<Case>) {
                 cases.push(read(&s, &message(texts, modes)));
             }
             // Rows for the array alone, and for all.
-            for rows in [0, 2, 3, 5, 6] {
+            for rows in [0, 3, 4, 6, 7, 8] {
                 cases.push(lent(rows, &s, message(&[text], modes)));
             }
         }
@@ -287,7 +291,7 @@ fn order_in_the_reader(cases: &mut Vec<Case>) {
             texts.push(text);
             let message = message(&texts, modes);
             cases.push(lent(ROWS, &s, message.clone()));
-            cases.push(lent(3 * texts.len(), &s, message));
+            cases.push(lent(rows::WORDS * texts.len(), &s, message));
         }
         // A block that nobody asks for.
         let blocks = vec![text.to_vec(), b"x".to_vec()];
@@ -303,20 +307,20 @@ fn order_in_the_writer(cases: &mut Vec<Case>) {
             cases.push(written(modes, &[text, text]));
             cases.push(written(modes, &[b"ok", b"", text, b"\xff"]));
         }
-        let place = |start: u64, len: u64| [rows::STRING, start, len];
+        let place = |start: u64, len: u64| [rows::STRING, start, len, 1];
         for places in [
             // The text, then a place outside; the other way round; a place too long.
             &[place(0, 4), place(0, 5)][..],
             &[place(0, 5), place(0, 4)],
             &[place(1, 4)],
             // A row of another kind first, or after it; a word that should be 0.
-            &[[rows::BYTES, 0, 4], place(0, 4)],
-            &[place(0, 4), [rows::BYTES, 0, 4]],
-            &[place(0, 4), [rows::NULL, 0, 1]],
+            &[[rows::BYTES, 0, 4, 1], place(0, 4)],
+            &[place(0, 4), [rows::BYTES, 0, 4, 1]],
+            &[place(0, 4), [rows::NULL, 0, 1, 1]],
         ] {
             let count = places.len() as u64;
             for said in [count, count + 1, count - 1] {
-                let list = [&[[rows::ARRAY, said, 0]], places].concat().concat();
+                let list = [&[[rows::ARRAY, said, 0, 0]], places].concat().concat();
                 cases.push(write(&s, 0, &list, text));
             }
         }
@@ -369,11 +373,11 @@ fn among_letters(cases: &mut Vec<Case>) {
 /// 28 before 32: one different value too many, and a text at fault after them.
 fn too_many(cases: &mut Vec<Case>) {
     for last in [&b"\xdf\xbf"[..], b"\xc1\xbf"] {
-        let mut list = vec![rows::ARRAY, MAX_NUMBERED as u64 + 1, 0];
+        let mut list = vec![rows::ARRAY, MAX_NUMBERED as u64 + 1, 0, 0];
         let mut pool = last.to_vec();
         pool.resize(2 + MAX_NUMBERED, b'x');
-        list.extend((1..=MAX_NUMBERED as u64).flat_map(|len| [rows::STRING, 2, len]));
-        list.extend([rows::STRING, 0, 2]);
+        list.extend((1..=MAX_NUMBERED as u64).flat_map(|len| [rows::STRING, 2, len, 1]));
+        list.extend([rows::STRING, 0, 2, 1]);
         cases.push(write(&table_s(), 0, &list, &pool));
     }
 }

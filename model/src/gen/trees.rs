@@ -271,8 +271,8 @@ struct Grower<'a> {
 }
 
 impl Grower<'_> {
-    fn row(&mut self, kind: u64, a: u64, b: u64) {
-        self.tree.rows.extend([kind, a, b]);
+    fn row(&mut self, node: usize, kind: u64, a: u64, b: u64) {
+        self.tree.rows.extend([kind, a, b, node as u64]);
     }
 
     fn value(&mut self, node: usize) {
@@ -280,28 +280,28 @@ impl Grower<'_> {
         let spent = self.fuel == 0;
         self.fuel = self.fuel.saturating_sub(1);
         if this.omittable && (spent || self.rng.one_in(4)) {
-            return self.row(rows::ABSENT, 0, 0);
+            return self.row(node, rows::ABSENT, 0, 0);
         }
         if this.nullable && (spent || self.rng.one_in(4)) {
-            return self.row(rows::NULL, 0, 0);
+            return self.row(node, rows::NULL, 0, 0);
         }
         match this.kind {
             table::BOOLEAN => {
                 let truth = rows::FALSE + self.rng.below(2) as u64;
-                self.row(truth, 0, 0)
+                self.row(node, truth, 0, 0)
             }
             table::VARINT => {
                 let n = self.word();
-                self.row(rows::INTEGER, n, 0)
+                self.row(node, rows::INTEGER, n, 0)
             }
             table::FLOAT64 => {
                 let bits = self.word();
-                self.row(rows::FLOAT, bits, 0)
+                self.row(node, rows::FLOAT, bits, 0)
             }
             table::FIXED => {
                 let len = this.argument as usize;
                 let start = self.fixed(len);
-                self.row(rows::FIXED, start as u64, len as u64)
+                self.row(node, rows::FIXED, start as u64, len as u64)
             }
             table::STRING | table::BYTES => {
                 let (start, len) = self.place(&this);
@@ -310,10 +310,10 @@ impl Grower<'_> {
                 } else {
                     rows::BYTES
                 };
-                self.row(kind, start as u64, len as u64)
+                self.row(node, kind, start as u64, len as u64)
             }
             table::RECORD => {
-                self.row(rows::RECORD, this.argument as u64, 0);
+                self.row(node, rows::RECORD, this.argument as u64, 0);
                 let mut field = this.child as usize;
                 for _ in 0..this.argument {
                     self.value(field);
@@ -327,7 +327,7 @@ impl Grower<'_> {
                     _ => self.rng.below(8),
                 };
                 let at = self.tree.rows.len();
-                self.row(rows::ARRAY, 0, 0);
+                self.row(node, rows::ARRAY, 0, 0);
                 let mut entries = 0;
                 while entries < wanted && self.fuel > 0 {
                     self.value(this.child as usize);
