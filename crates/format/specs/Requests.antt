@@ -13,7 +13,7 @@ use Rattle.format.specs.Table
 use Rattle.format.specs.Row
 use Rattle.format.specs.Read
 use Rattle.format.specs.Write
-use Rattle.format.specs.Examples.{tableOf, S, answered, reading, writing}
+use Rattle.format.specs.Examples.{tableOf, S, answered, reading, writing, writingIn}
 
 -- No. 2: an overlong slash, half a surrogate pair, a code point above 10FFFF; the euro sign and the last code point; and a surrogate to be written, in row 1
 pub names :
@@ -39,7 +39,7 @@ unfolding
     Modes.has Modes.among Modes.areAllowed Modes.readHeader
     Table.u16 Table.nodeAt Table.omittable Table.deduplicate Table.mostArgument Table.rightAlone Table.isTextual Table.isLeaf Table.kindMayStand Table.omittableMayStand Table.mayStand Table.topOf Table.wireOf Table.shapeOf Table.leafOf Table.each Table.firstFrom Table.stands Table.buildFields Table.below Table.build Table.tree Table.isBlockOf Table.heldBy Table.alike Table.agrees Table.isMarked Table.rightCount Table.schemaOf Table.check
     Row.saysWords Row.rowWords Row.words Row.isPlace Row.fromWords Row.under Row.rowAt Row.isInside Row.found Row.look Row.saysPart Row.partOf Row.part Row.saysOf Row.cellOf Row.shownAt Row.shownFrom
-    Read.isLabel Read.isNumbered Read.isRight Read.nth Read.addAt Read.total Read.littleEndian Read.fieldCount Read.truthOf Read.countOf Read.isNull Read.readNumber Read.readBytes Read.isRead Read.takeLabel Read.takeRow Read.atBlock Read.atKey Read.addLiteral Read.oneRow Read.rowOr Read.entries Read.ownLabel Read.noLabel Read.value Read.fromKey Read.readText Read.leaf Read.wire Read.walk Read.allRead Read.isDone Read.sizeOf Read.pieces Read.lastOf Read.blocksAndCore Read.split Read.readChecked Read.read
+    Read.isLabel Read.isNumbered Read.isRight Read.isEnded Read.ending Read.nth Read.addAt Read.total Read.littleEndian Read.fieldCount Read.truthOf Read.countOf Read.isNull Read.readNumber Read.readBytes Read.readLiteral Read.isRead Read.takeLabel Read.takeRow Read.atBlock Read.atKey Read.addLiteral Read.oneRow Read.rowOr Read.entries Read.ownLabel Read.noLabel Read.value Read.fromKey Read.readText Read.leaf Read.wire Read.walk Read.allRead Read.isDone Read.sizeOf Read.pieces Read.lastOf Read.blocksAndCore Read.split Read.readChecked Read.read
     Write.unlabelled Write.nextIn Write.isBare Write.wordIn Write.textIn Write.truthIn Write.littleEndianBytes Write.markOr Write.fitEntries Write.fitField Write.fitLeaf Write.fitWire Write.sameText Write.further Write.firstEqual Write.choose Write.addBytes Write.putLabel Write.putValue Write.putLiteral Write.putFront Write.putChoice Write.putBody Write.putEvents Write.blockPieces Write.pieceBytes Write.messageOf Write.bodyValue Write.valuesOf Write.unlessThere Write.distinctAfter Write.differentValues Write.areWhole Write.eventsOf Write.encode Write.writeChecked Write.write
 names = refl
 
@@ -115,6 +115,51 @@ unfolding
     Modes.has Modes.among Modes.areAllowed Modes.readHeader
     Table.u16 Table.nodeAt Table.omittable Table.deduplicate Table.mostArgument Table.rightAlone Table.isTextual Table.isLeaf Table.kindMayStand Table.omittableMayStand Table.mayStand Table.topOf Table.wireOf Table.shapeOf Table.leafOf Table.each Table.firstFrom Table.stands Table.buildFields Table.below Table.build Table.tree Table.isBlockOf Table.heldBy Table.alike Table.agrees Table.isMarked Table.rightCount Table.schemaOf Table.check
     Row.saysWords Row.rowWords Row.words Row.isPlace Row.fromWords Row.under Row.rowAt Row.isInside Row.found Row.look Row.saysPart Row.partOf Row.part Row.saysOf Row.cellOf Row.shownAt Row.shownFrom
-    Read.isLabel Read.isNumbered Read.isRight Read.nth Read.addAt Read.total Read.littleEndian Read.fieldCount Read.truthOf Read.countOf Read.isNull Read.readNumber Read.readBytes Read.isRead Read.takeLabel Read.takeRow Read.atBlock Read.atKey Read.addLiteral Read.oneRow Read.rowOr Read.entries Read.ownLabel Read.noLabel Read.value Read.fromKey Read.readText Read.leaf Read.wire Read.walk Read.allRead Read.isDone Read.sizeOf Read.pieces Read.lastOf Read.blocksAndCore Read.split Read.readChecked Read.read
+    Read.isLabel Read.isNumbered Read.isRight Read.isEnded Read.ending Read.nth Read.addAt Read.total Read.littleEndian Read.fieldCount Read.truthOf Read.countOf Read.isNull Read.readNumber Read.readBytes Read.readLiteral Read.isRead Read.takeLabel Read.takeRow Read.atBlock Read.atKey Read.addLiteral Read.oneRow Read.rowOr Read.entries Read.ownLabel Read.noLabel Read.value Read.fromKey Read.readText Read.leaf Read.wire Read.walk Read.allRead Read.isDone Read.sizeOf Read.pieces Read.lastOf Read.blocksAndCore Read.split Read.readChecked Read.read
     Write.unlabelled Write.nextIn Write.isBare Write.wordIn Write.textIn Write.truthIn Write.littleEndianBytes Write.markOr Write.fitEntries Write.fitField Write.fitLeaf Write.fitWire Write.sameText Write.further Write.firstEqual Write.choose Write.addBytes Write.putLabel Write.putValue Write.putLiteral Write.putFront Write.putChoice Write.putBody Write.putEvents Write.blockPieces Write.pieceBytes Write.messageOf Write.bodyValue Write.valuesOf Write.unlessThere Write.distinctAfter Write.differentValues Write.areWhole Write.eventsOf Write.encode Write.writeChecked Write.write
 nodes = refl
+
+-- No. 5: in mode 4 each text is followed by a 00, an empty one too, and a backreference by none; a 00 inside a text is a byte like any other; BYTES have none.
+-- No byte left for the 00 is 27, where there is none for the text too; another byte there is 35, also where the text is no text. In mode 0 both stand in the core.
+-- The writer puts a 00 behind each text, whatever stands behind it in the pool.
+abbrev B : List ℕ
+B = tableOf 3 (0x08 ∷ 0x00 ∷ 0x00 ∷ 0x00 ∷ 0x09 ∷ 0x02 ∷ 0x00 ∷ 0x00 ∷ 0x05 ∷ 0x00 ∷ 0x00 ∷ 0x00 ∷ [])
+
+pub endings :
+    (reading S (0x20 ∷ 0x06 ∷ 0x41 ∷ 0x00 ∷ 0x00 ∷ 0x08 ∷ 0x06 ∷ 0x02 ∷ 0x00 ∷ 0x07 ∷ [])
+    ∷ reading S (0x20 ∷ 0x08 ∷ 0x41 ∷ 0x00 ∷ 0x42 ∷ 0x00 ∷ 0x04 ∷ 0x02 ∷ 0x06 ∷ [])
+    ∷ reading B (0x20 ∷ 0x02 ∷ 0xff ∷ 0x04 ∷ 0x02 ∷ 0x02 ∷ [])
+    ∷ reading S (0x20 ∷ 0x02 ∷ 0x41 ∷ 0x04 ∷ 0x02 ∷ 0x02 ∷ [])
+    ∷ reading S (0x20 ∷ 0x02 ∷ 0x41 ∷ 0x04 ∷ 0x02 ∷ 0x04 ∷ [])
+    ∷ reading S (0x20 ∷ 0x04 ∷ 0x41 ∷ 0x01 ∷ 0x04 ∷ 0x02 ∷ 0x02 ∷ [])
+    ∷ reading S (0x20 ∷ 0x04 ∷ 0xff ∷ 0x01 ∷ 0x04 ∷ 0x02 ∷ 0x02 ∷ [])
+    ∷ reading S (0x20 ∷ 0x04 ∷ 0xff ∷ 0x00 ∷ 0x04 ∷ 0x02 ∷ 0x02 ∷ [])
+    ∷ reading S (0x22 ∷ 0x02 ∷ 0x02 ∷ 0x41 ∷ 0x00 ∷ [])
+    ∷ writingIn 16 S (10 ∷ 3 ∷ 0 ∷ 0 ∷ 6 ∷ 0 ∷ 1 ∷ 1 ∷ 6 ∷ 0 ∷ 0 ∷ 1 ∷ 6 ∷ 0 ∷ 1 ∷ 1 ∷ []) (0x41 ∷ 0x42 ∷ [])
+    ∷ writingIn 17 S (10 ∷ 1 ∷ 0 ∷ 0 ∷ 6 ∷ 0 ∷ 1 ∷ 1 ∷ []) (0x41 ∷ 0x42 ∷ [])
+    ∷ writingIn 16 B (10 ∷ 1 ∷ 0 ∷ 0 ∷ 7 ∷ 0 ∷ 1 ∷ 1 ∷ []) (0xff ∷ [])
+    ∷ [])
+    ≡
+    ((0 ∷ 4 ∷ 10 ∷ 3 ∷ 0 ∷ 0 ∷ 6 ∷ 2 ∷ 1 ∷ 1 ∷ 6 ∷ 4 ∷ 0 ∷ 1 ∷ 6 ∷ 2 ∷ 1 ∷ 1 ∷ [])
+    ∷ (0 ∷ 2 ∷ 10 ∷ 1 ∷ 0 ∷ 0 ∷ 6 ∷ 2 ∷ 3 ∷ 1 ∷ [])
+    ∷ (0 ∷ 2 ∷ 10 ∷ 1 ∷ 0 ∷ 0 ∷ 7 ∷ 2 ∷ 1 ∷ 1 ∷ [])
+    ∷ (27 ∷ 0 ∷ [])
+    ∷ (27 ∷ 0 ∷ [])
+    ∷ (35 ∷ 0 ∷ [])
+    ∷ (35 ∷ 0 ∷ [])
+    ∷ (28 ∷ 0 ∷ [])
+    ∷ (0 ∷ 2 ∷ 10 ∷ 1 ∷ 0 ∷ 0 ∷ 6 ∷ 3 ∷ 1 ∷ 1 ∷ [])
+    ∷ (0 ∷ 10 ∷ 32 ∷ 6 ∷ 65 ∷ 0 ∷ 0 ∷ 8 ∷ 6 ∷ 2 ∷ 0 ∷ 7 ∷ [])
+    ∷ (0 ∷ 5 ∷ 34 ∷ 2 ∷ 2 ∷ 65 ∷ 0 ∷ [])
+    ∷ (0 ∷ 6 ∷ 32 ∷ 2 ∷ 255 ∷ 4 ∷ 2 ∷ 2 ∷ [])
+    ∷ [])
+unfolding
+    Answer.number Answer.second Answer.output Answer._>>=_ Answer._>>_ Answer.needAt Answer.orRefuse
+    Label.zigzag Label.unzigzag Label.septets Label.varint Label.label Label.continued Label.readSeptets Label.within64 Label.readVarint Label.signedOf Label.readLabel Label.word Label.integer
+    Utf8.within Utf8.behindLead Utf8.goesOn Utf8.textFrom Utf8.isText Utf8.encoding Utf8.encodings
+    Modes.has Modes.among Modes.areAllowed Modes.readHeader
+    Table.u16 Table.nodeAt Table.omittable Table.deduplicate Table.mostArgument Table.rightAlone Table.isTextual Table.isLeaf Table.kindMayStand Table.omittableMayStand Table.mayStand Table.topOf Table.wireOf Table.shapeOf Table.leafOf Table.each Table.firstFrom Table.stands Table.buildFields Table.below Table.build Table.tree Table.isBlockOf Table.heldBy Table.alike Table.agrees Table.isMarked Table.rightCount Table.schemaOf Table.check
+    Row.saysWords Row.rowWords Row.words Row.isPlace Row.fromWords Row.under Row.rowAt Row.isInside Row.found Row.look Row.saysPart Row.partOf Row.part Row.saysOf Row.cellOf Row.shownAt Row.shownFrom
+    Read.isLabel Read.isNumbered Read.isRight Read.isEnded Read.ending Read.nth Read.addAt Read.total Read.littleEndian Read.fieldCount Read.truthOf Read.countOf Read.isNull Read.readNumber Read.readBytes Read.readLiteral Read.isRead Read.takeLabel Read.takeRow Read.atBlock Read.atKey Read.addLiteral Read.oneRow Read.rowOr Read.entries Read.ownLabel Read.noLabel Read.value Read.fromKey Read.readText Read.leaf Read.wire Read.walk Read.allRead Read.isDone Read.sizeOf Read.pieces Read.lastOf Read.blocksAndCore Read.split Read.readChecked Read.read
+    Write.unlabelled Write.nextIn Write.isBare Write.wordIn Write.textIn Write.truthIn Write.littleEndianBytes Write.markOr Write.fitEntries Write.fitField Write.fitLeaf Write.fitWire Write.sameText Write.further Write.firstEqual Write.choose Write.addBytes Write.putLabel Write.putValue Write.putLiteral Write.putFront Write.putChoice Write.putBody Write.putEvents Write.blockPieces Write.pieceBytes Write.messageOf Write.bodyValue Write.valuesOf Write.unlessThere Write.distinctAfter Write.differentValues Write.areWhole Write.eventsOf Write.encode Write.writeChecked Write.write
+endings = refl
