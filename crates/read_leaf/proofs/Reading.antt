@@ -1,21 +1,27 @@
 -- Reading at a cursor is reading at the place that it stands for. Assumes nothing.
-use mathlib.Core.Path.{_≡_, sym, ap, _∙_}
+use mathlib.Core.Path.{_≡_, refl, sym, ap, _∙_}
+use mathlib.Core.Bool.{Bool, true, false}
 use mathlib.Core.List.{List, [], _∷_}
 use Prim.Native.Nat.{ℕ, zero, suc, _+_, _-_, _<_, _≤_}
-use native.Mathlib.Nat.{sub-zero, zero-sub, suc-sub-suc}
+use native.Mathlib.Nat.{add-zero, sub-zero, zero-sub, suc-sub-suc}
 use native.Mathlib.Omega.{arith}
 use lib.IntN.{ℤ}
-use lib.ListN.{length, take, drop}
-use lib.Seq.{slice, length-slice, take-nil, take-length, length-take-le}
+use lib.Dec.{leb, eqb}
+use lib.ListN.{length, getD, take, drop, length-take, length-drop}
+use lib.Seq.{slice, length-slice, take-nil, take-length, length-take-le, drop-cons, drop-drop, getD-take, getD-drop}
 use borrow.Author.Tests.{le-leb, lt-leb}
-use Rattle.format.specs.Answer.{ok, refuse, needAt, orRefuse, _>>=_, _>>_}
+use Rattle.format.specs.Answer.{Answer, ok, refuse, need, needAt, orRefuse, _>>=_, _>>_}
 use Rattle.format.specs.Label.{readLabel}
-use Rattle.format.specs.Read.{inMessage, readNumber, readBytes}
+use Rattle.format.specs.Row.{Place}
+use Rattle.format.specs.Read.{Reading, inMessage, ending, readNumber, readBytes, readLiteral}
+use Rattle.laws.specs.Facts.{by-bool, by-lt}
 use Rattle.label.specs.declared.cursor.Cursor.{Cursor}
 use Rattle.label.specs.declared.cursor.Label.the-variants.{Got, Bad}
 use Rattle.label.specs.Cursor.{cursor, answer, labelAt}
 use Rattle.label.specs.Moved.{label-moved, label-bad}
 use Rattle.read_pieces.specs.Pieces.{readingOf, Inside}
+use Rattle.read_leaf.specs.Touch.{then-read}
+use Rattle.read_leaf.specs.Contracts.{isEnding}
 
 pub take-drop : {X : Type 0} (n k : ℕ) (l : List X) → take (k - n) (drop n l) ≡ drop n (take k l)
 take-drop zero k l = rw sub-zero
@@ -64,3 +70,46 @@ module _ (m : List ℕ) (c : Cursor) where
 
     pub number-inside : (l : ℤ) (next : Cursor) → labelAt m c ≡ Got l next → Inside m next × (next .end ≡ c .end)
     number-inside l next e = let v = label-moved m c l next (i .inside) e in (record { ordered = omega (arith, v .inside, v .end); inside = omega (arith, i .inside, v .end) }, v .end)
+
+-- ---- a literal, and the 00 behind it
+
+-- of the bytes that it takes, those that it is, where the one behind them is right
+abbrev pub shown : List ℕ → Bool → ℕ → Place → Answer Place
+shown m b n v = need (isEnding m b (v .start + n)) 35 >> ok (record { start = v .start; size = n })
+
+module _ (m : List ℕ) (n : ℕ) (p : Reading) where
+  abbrev left : List ℕ
+  left = inMessage m .left p
+
+  abbrev behind : List ℕ
+  behind = inMessage m .left (record { at = p .at + n; end = p .end })
+
+  -- what is left behind the next n bytes
+  behind-is : behind ≡ drop n left
+  behind-is =
+      let e : p .end - (p .at + n) ≡ p .end - p .at - n = omega arith in
+      rw (e, ← drop-drop n (p .at) m) (take-drop n (p .end - p .at) (drop (p .at) m))
+
+  behind-size : length behind ≡ length left - n
+  behind-size = ap length behind-is ∙ length-drop n left
+
+  behind-first : n < length left → getD behind 0 1 ≡ getD m (p .at + n) 0
+  behind-first h =
+      let b : n < p .end - p .at = omega (arith, length-take (p .end - p .at) (drop (p .at) m)) in
+      rw (behind-is, drop-cons left n 0 h) (getD-take (p .end - p .at) (drop (p .at) m) n 0 b ∙ getD-drop (p .at) m n 0)
+
+  -- the bytes and the 00 are asked for at once: the one or the other is missing alike
+  pub literal-at : (b : Bool) → readLiteral (inMessage m) b n p ≡ (readBytes (inMessage m) (n + length (ending b)) p >>= then-read (shown m b n))
+  unfolding readLiteral readBytes ending isEnding needAt _>>_ _>>=_
+  literal-at false = by-bool (leb n (length left)) (λ e. rw (add-zero, e)) (λ e. rw (add-zero, e))
+  literal-at true = by-lt n (length left)
+      (λ h.
+      let e : leb n (length left) ≡ true = le-leb n (length left) (omega arith) in
+      let e₁ : leb (n + 1) (length left) ≡ true = le-leb (n + 1) (length left) (omega arith) in
+      let e₂ : leb 1 (length behind) ≡ true = le-leb 1 (length behind) (omega (arith, behind-size)) in
+      let z : p .at + n + 1 ≡ p .at + (n + 1) = omega arith in
+      by-bool (eqb (getD m (p .at + n) 0) 0) (λ t. rw (e, e₁, e₂, behind-first h, t, z)) (λ t. rw (e, e₁, e₂, behind-first h, t)))
+      (λ h.
+      let e₁ : leb (n + 1) (length left) ≡ false = lt-leb (n + 1) (length left) (omega arith) in
+      let e₂ : leb 1 (length behind) ≡ false = lt-leb 1 (length behind) (omega (arith, behind-size)) in
+      by-bool (leb n (length left)) (λ e. rw (e, e₁, e₂)) (λ e. rw (e, e₁)))

@@ -1,15 +1,15 @@
 // STRING and BYTES: a literal, or a literal again by its number.
 ghost use mathlib.Core.Path.{_≡_};
-ghost use Prim.Native.Nat.{_+_, _≤_, _<_};
+ghost use Prim.Native.Nat.{_+_, _≤_, _<_, _^_};
 ghost use lib.IntN.{pos};
 ghost use lib.ListN.{length};
 ghost use Rattle.format.specs.Row.{bytesAt};
-ghost use Rattle.format.specs.Read.{inMessage, isRight, readText};
+ghost use Rattle.format.specs.Read.{inMessage, isEnded, isRight, ending, readText};
 ghost use Rattle.read_pieces.specs.Pieces.{Inside};
 ghost use Rattle.read_literals.specs.Words.{Good};
 ghost use Rattle.read_leaf.specs.State.{Ready, Takes};
-ghost use Rattle.read_leaf.specs.Meaning.{frontOf, heldLeaf, heldOf, partOf};
-ghost use Rattle.read_leaf.specs.Contracts.{Numbers, Again, textOf};
+ghost use Rattle.read_leaf.specs.Meaning.{frontOf, heldLeaf, heldOf, partOf, PartIn};
+ghost use Rattle.read_leaf.specs.Contracts.{isEnding, literalOf, Numbers, Again, textOf};
 use super::block;
 use super::block::Part;
 use super::front;
@@ -36,6 +36,62 @@ fn is_right(m: &[u8], leaf: Leaf, start: usize, size: usize) -> bool
     }
 }
 
+// Whether a 00 stands behind a literal: behind a STRING's, in NullTerminatedStrings.
+fn is_ended(modes: u64, leaf: Leaf) -> bool
+    ensures { λ r. ⌜ r ≡ isEnded modes (heldLeaf leaf) ⌝ }
+{
+    let set = modes / 16 % 2 == 1;
+    match leaf {
+        Leaf::String => set,
+        Leaf::Varint => false,
+        Leaf::Float64 => false,
+        Leaf::Bytes => false,
+        Leaf::Fixed(_) => false,
+    }
+}
+
+// Whether the byte behind a literal is 00, where it has to be.
+fn is_ending(m: &[u8], at: usize, ended: bool) -> bool
+    requires { ⌜ at + length (ending ended) ≤ length (now m) ⌝ }
+    ensures { λ r. ⌜ r ≡ isEnding (now (m .entry)) ended at ⌝ }
+{
+    if ended {
+        return m[at] == 0;
+    }
+    true
+}
+
+// A literal's bytes, and past the 00 behind them. The refusals in their order: 29 and 27, 35, 28. That the text or its 00
+// is missing is one question, since both are 27.
+fn take_literal(
+    m: &[u8],
+    work: &mut [u32],
+    modes: u64,
+    key: usize,
+    leaf: Leaf,
+    size: usize,
+    c: Cursor,
+) -> Part
+    requires { ⌜ Ready (now m) (now work) × (key < 32) × Inside (now m) c × (size < 2 ^ 63) ⌝ }
+    ensures { λ r. ⌜ Takes (now (m .entry)) (now (work .entry)) (now (work .exit)) c (partOf r) (literalOf (now (m .entry)) modes (heldLeaf leaf) key size) ⌝ }
+    ensures { λ r. ⌜ PartIn (now (m .entry)) size r ⌝ }
+{
+    let ended = is_ended(modes, leaf);
+    let taken = block::take_bytes(m, work, modes, key, modes::size_with_ending(size, ended), c);
+    let Part::At(start, _, next) = taken else {
+        return taken;
+    };
+    let ends = is_ending(m, start + size, ended);
+    let right = is_right(m, leaf, start, size);
+    if !ends {
+        return Part::Refused(35);
+    }
+    if !right {
+        return Part::Refused(28);
+    }
+    Part::At(start, size, next)
+}
+
 // Whether the literals of a key are numbered.
 fn is_numbered(modes: u64, dedup: bool) -> bool
     ensures { λ r. ⌜ Numbers modes dedup r ⌝ }
@@ -46,7 +102,7 @@ fn is_numbered(modes: u64, dedup: bool) -> bool
     false
 }
 
-// The refusals in their order: 29 and 27, 28, 32.
+// After the refusals of its bytes, 32.
 fn literal(
     m: &[u8],
     work: &mut [u32],
@@ -57,16 +113,13 @@ fn literal(
     size: usize,
     c: Cursor,
 ) -> Part
-    requires { ⌜ Ready (now m) (now work) × (key < 32) × Inside (now m) c ⌝ }
+    requires { ⌜ Ready (now m) (now work) × (key < 32) × Inside (now m) c × (size < 2 ^ 63) ⌝ }
     ensures { λ r. ⌜ Takes (now (m .entry)) (now (work .entry)) (now (work .exit)) c (partOf r) (readText (inMessage (now (m .entry))) modes (λ k. heldOf leaf dedup) key (pos size)) ⌝ }
 {
-    let taken = block::take_bytes(m, work, modes, key, size, c);
+    let taken = take_literal(m, work, modes, key, leaf, size, c);
     let Part::At(start, size, _) = taken else {
         return taken;
     };
-    if !is_right(m, leaf, start, size) {
-        return Part::Refused(28);
-    }
     let numbered = is_numbered(modes, dedup);
     if !numbered {
         return taken;

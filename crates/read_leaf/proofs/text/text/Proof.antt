@@ -6,7 +6,7 @@ use mir.Syntax.{w64}
 use mir.ValLaws.{toZ-ofZ}
 use borrow.Author.Needs.{needs}
 use Rattle.read_leaf.specs.Meaning.{frontOf, labelOf, heldLeaf, heldOf, sizeLabel}
-use Rattle.read_leaf.proofs.Texts.{takes-inside, text-not, text-is}
+use Rattle.read_leaf.proofs.Texts.{takes-inside, text-not, text-is, size-small}
 use Rattle.read_leaf.proofs.text.text.Statement.{statement}
 use Rattle.read_leaf.proofs.text.text.Tie as tie
 
@@ -35,11 +35,14 @@ enum-known-size c = search needs
 
 literal-requires : tie.Need-literal-requires
 literal-requires c κs =
-    let c6 = c .before .before .before .before .before .before in
+    let c2 = c .before .before in
+    let c4 = c2 .before .before in
+    let c5 = c4 .before in
+    let c6 = c5 .before in
     let c8 = c6 .before .before in
     let c11 = c8 .before .before .before in
     let a = c11 .args in
-    (c11 .pre .0, c11 .pre .1, takes-inside (c8 .own-label .ensures .takes (now (a .work)) (c11 .pre .0)) (ap labelOf (c6 .l .given .1)))
+    (c11 .pre .0, c11 .pre .1, takes-inside (c8 .own-label .ensures .takes (now (a .work)) (c11 .pre .0)) (ap labelOf (c6 .l .given .1)), size-small (c6 .l .given .0 .0) (record { sfits = c5 .known-told .given .0 .1 }) (c4 .size-of .ensures) (c2 .size .given .1))
 
 enum-known-size-2 : tie.Need-enum-known-size-2
 enum-known-size-2 c = search needs
