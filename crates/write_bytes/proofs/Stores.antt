@@ -1,14 +1,18 @@
--- Bytes stored one by one.
-use mathlib.Core.Path.{_≡_}
-use mathlib.Core.List.{List, [], _∷_}
+-- Bytes stored one by one, and the 00 behind a part.
+use mathlib.Core.Path.{_≡_, sym, ap, _∙_}
+use mathlib.Core.Bool.{Bool, true, false, not}
+use mathlib.Core.List.{List, [], _∷_, _++_}
 use Prim.Native.Nat.{ℕ, suc, _+_, _-_, _/_, _%_, _<_, _≤_}
 use native.Mathlib.Nat.{add-suc}
 use native.Mathlib.Numerals.{add-one}
 use native.Mathlib.Omega.{arith}
-use lib.ListN.{length, getD, set, drop, drop-of-length-le}
+use lib.ListN.{length, length-append, getD, set, drop, drop-of-length-le}
 use lib.Seq.{sets, drop-cons}
 use Rattle.format.specs.Row.{Place, bytesAt}
+use borrow.Author.Tests.{not-true, not-false}
+use Rattle.format.specs.Read.{ending}
 use Rattle.format.specs.Write.{littleEndianBytes}
+use Rattle.laws.specs.Lists.{sets-append}
 use Rattle.write_search.specs.Parts.{part-length, part-at}
 
 -- the first of some bytes is stored, and the others go behind it
@@ -39,3 +43,27 @@ module _ (out : List ℕ) (at : ℕ) (v i : ℕ) where
   pub word-whole : 8 ≤ i → sets out (at + i) (littleEndianBytes (8 - i) v) ≡ out
   unfolding littleEndianBytes
   word-whole h = let e : 8 - i ≡ 0 = omega arith in rw e
+
+-- ---- the 00 behind a part, where it is ended by one
+
+module _ (ended : Bool) where
+  pub one-ending : not ended ≡ false → length (ending ended) ≡ 1
+  unfolding ending
+  one-ending b = rw (not-false ended b)
+
+  module _ (out : List ℕ) (at : ℕ) where
+    pub no-ending : not ended ≡ true → out ≡ sets out at (ending ended)
+    unfolding ending
+    no-ending b = rw (not-true ended b)
+
+    pub an-ending : not ended ≡ false → set out at 0 ≡ sets out at (ending ended)
+    unfolding ending
+    an-ending b = rw (not-false ended b)
+
+  module _ (pool : List ℕ) (p : Place) (inside : p .start + p .size ≤ length pool) where
+    pub ended-length : {n : ℕ} → n ≡ p .size + length (ending ended) → length (bytesAt pool p ++ ending ended) ≡ n
+    ended-length e = omega (arith, length-append (bytesAt pool p) (ending ended), part-length pool p inside)
+
+    pub ended-stored : (out : List ℕ) {out₁ out₂ : List ℕ} (at : ℕ) → out₁ ≡ sets out at (bytesAt pool p) → out₂ ≡ sets out₁ (at + p .size) (ending ended) → out₂ ≡ sets out at (bytesAt pool p ++ ending ended)
+    ended-stored out at e₁ e₂ =
+        e₂ ∙ ap (λ l. sets l (at + p .size) (ending ended)) e₁ ∙ ap (λ (n : ℕ). sets (sets out at (bytesAt pool p)) (at + n) (ending ended)) (sym (part-length pool p inside)) ∙ sets-append out at (bytesAt pool p) (ending ended)

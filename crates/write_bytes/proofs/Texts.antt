@@ -1,7 +1,7 @@
 -- Texts: what is kept of a literal, and the two ways to write a text.
 use mathlib.Core.Path.{_≡_, refl, sym, ap, subst, _∙_}
 use mathlib.Core.Bool.{Bool, true, false, not}
-use mathlib.Core.List.{List, [], _∷_, map, map-append}
+use mathlib.Core.List.{List, [], _∷_, _++_, map, map-append}
 use mathlib.Core.Option.{Option, none, some}
 use Prim.Native.Nat.{ℕ, zero, suc, _+_, _<_, _≤_}
 use native.Mathlib.Omega.{arith}
@@ -13,7 +13,7 @@ use Rattle.format.specs.Answer.{Answer, ok, refuse, _>>=_}
 use Rattle.format.specs.Label.{label}
 use Rattle.format.specs.Table.{Held}
 use Rattle.format.specs.Row.{Place, Text, bytesAt}
-use Rattle.format.specs.Read.{addAt, total, numberLabel, isNumbered}
+use Rattle.format.specs.Read.{addAt, total, numberLabel, isNumbered, ending}
 use Rattle.format.specs.Write.{text, choose, firstEqual}
 use Rattle.store.specs.Store.{lookup}
 use Rattle.write_literals.specs.Store.{Literal, Store, added, overfull}
@@ -124,7 +124,7 @@ texts-at pool k ls = List·getD-map (λ l. textsOf pool l) ls k []
 
 -- ---- a literal
 
-module _ (put inline numbered : Bool) (k core : ℕ) {pool w out : List ℕ} (x : Place) (g : Ready pool w) (given : x .start + x .size ≤ length pool)
+module _ (put inline numbered ended : Bool) (k core : ℕ) {pool w out : List ℕ} (x : Place) (g : Ready pool w) (given : x .start + x .size ≤ length pool)
     {out₁ : List ℕ} {r₁ : Put} (d₁ : Puts put core (label (pos (x .size))) out out₁ r₁) where
   abbrev written : ℕ → (ℕ → Held) → Answer Plan
   written modes held = emitChoice put modes held k (bytesAt pool x) none (planOf pool out w core)
@@ -132,17 +132,17 @@ module _ (put inline numbered : Bool) (k core : ℕ) {pool w out : List ℕ} (x 
   first : Does pool w w out₁ r₁ (emitCore put (label (pos (length (bytesAt pool x)))) (planOf pool out w core))
   first = rw (part-length pool x given) (core-emits put w d₁ .does pool g)
 
-  pub literal-stop : r₁ ≡ Full → EmitsText inline numbered k pool w w out₁ r₁ written
+  pub literal-stop : r₁ ≡ Full → EmitsText inline numbered ended k pool w w out₁ r₁ written
   unfolding emitChoice
-  literal-stop q = record { does = λ modes held i n. does-stop _ _ first q }
+  literal-stop q = record { does = λ modes held i n t. does-stop _ _ first q }
 
-  module _ {next : ℕ} (q₁ : r₁ ≡ To next) {w₁ out₂ : List ℕ} {r₂ : Put} (d₂ : Emits w w₁ out₁ out₂ next r₂ (emitBytes put inline k (bytesAt pool x))) where
-    then : Does pool w w₁ out₂ r₂ (emitBytes put inline k (bytesAt pool x) (planOf pool out₁ w next))
+  module _ {next : ℕ} (q₁ : r₁ ≡ To next) {w₁ out₂ : List ℕ} {r₂ : Put} (d₂ : Emits w w₁ out₁ out₂ next r₂ (emitBytes put inline k (bytesAt pool x ++ ending ended))) where
+    then : Does pool w w₁ out₂ r₂ (emitBytes put inline k (bytesAt pool x ++ ending ended) (planOf pool out₁ w next))
     then = d₂ .does pool (does-done _ first q₁ .ready)
 
-    pub literal-full : r₂ ≡ Full → EmitsText inline numbered k pool w w₁ out₂ r₂ written
+    pub literal-full : r₂ ≡ Full → EmitsText inline numbered ended k pool w w₁ out₂ r₂ written
     unfolding emitChoice
-    literal-full q = record { does = λ modes held i n. does-then _ _ first q₁ (rw i (does-stop _ _ then q)) }
+    literal-full q = record { does = λ modes held i n t. does-then _ _ first q₁ (rw (i, t) (does-stop _ _ then q)) }
 
     pub literal-good : {end : ℕ} → r₂ ≡ To end → Good w₁
     literal-good q = does-done _ then q .ready .good
@@ -150,14 +150,14 @@ module _ (put inline numbered : Bool) (k core : ℕ) {pool w out : List ℕ} (x 
     module _ {end : ℕ} {w₂ : List ℕ} {y : Literal} (q : r₂ ≡ To end) (kp : numbered ≡ true → KeepsText pool (textsOf pool (getD (storeOf w .literals) k [])) x y) (c : Changes w₁ w₂ (kept numbered k y)) where
       same-texts : textsOf pool (getD (storeOf w .literals) k []) ≡ textsOf pool (getD (storeOf w₁ .literals) k [])
       same-texts =
-          let e = bytes-literals put k (bytesAt pool x) (planOf pool out₁ w next) inline (does-done _ then q .is) in
+          let e = bytes-literals put k (bytesAt pool x ++ ending ended) (planOf pool out₁ w next) inline (does-done _ then q .is) in
           sym (texts-at pool k (storeOf w .literals)) ∙ ap (λ (ls : List (List Text)). getD ls k []) (sym e) ∙ texts-at pool k (storeOf w₁ .literals)
 
-      pub literal-done : EmitsText inline numbered k pool w w₂ out₂ (To end) written
+      pub literal-done : EmitsText inline numbered ended k pool w w₂ out₂ (To end) written
       unfolding emitChoice
       literal-done = record {
-        does = λ modes held i n.
-            does-then _ _ first q₁ (rw (i, n) (does-then _ _ then q (keep-does pool k y x given out₂ end numbered (λ t. rw same-texts at (kp t)) (does-done _ then q .ready) c)));
+        does = λ modes held i n t.
+            does-then _ _ first q₁ (rw (i, n, t) (does-then _ _ then q (keep-does pool k y x given out₂ end numbered (λ b. rw same-texts at (kp b)) (does-done _ then q .ready) c)));
       }
 
 -- ---- a text
@@ -180,7 +180,7 @@ found-small h q = subst (λ (f : Found). InWords f) q h
 pub found-kept : (pool : List ℕ) (ts : List Text) (p : Place) {f f′ : Found} → KeepAs pool ts p f → f ≡ f′ → KeepAs pool ts p f′
 found-kept pool ts p h q = subst (λ (f : Found). KeepAs pool ts p f) q h
 
-module _ (put inline numbered : Bool) (k core : ℕ) (pool w out : List ℕ) (x : Place) (f : Found) (c : number f ≡ choose numbered (bytesAt pool x) (textsOf pool (getD (storeOf w .literals) k []))) where
+module _ (put inline numbered ended : Bool) (k core : ℕ) (pool w out : List ℕ) (x : Place) (f : Found) (c : number f ≡ choose numbered (bytesAt pool x) (textsOf pool (getD (storeOf w .literals) k []))) where
   abbrev row : ℕ → (ℕ → Held) → Answer Plan
   row modes held = emitEvent put modes held (record { front = none; body = text k (bytesAt pool x) }) (planOf pool out w core)
 
@@ -188,9 +188,9 @@ module _ (put inline numbered : Bool) (k core : ℕ) (pool w out : List ℕ) (x 
   unfolding emitEvent emitFront emitBody emitText _>>=_
   row-by modes held n e = rw (n, texts-at pool k (storeOf w .literals), ← c, e)
 
-  pub row-out : {w′ out′ : List ℕ} {r : Put} {first second : ℕ} → f ≡ Nothing first second → EmitsText inline numbered k pool w w′ out′ r (λ modes held. emitChoice put modes held k (bytesAt pool x) none (planOf pool out w core)) → EmitsText inline numbered k pool w w′ out′ r row
-  row-out q d = record { does = λ modes held i n. along (row-by modes held n (ap number q)) (d .does modes held i n) }
+  pub row-out : {w′ out′ : List ℕ} {r : Put} {first second : ℕ} → f ≡ Nothing first second → EmitsText inline numbered ended k pool w w′ out′ r (λ modes held. emitChoice put modes held k (bytesAt pool x) none (planOf pool out w core)) → EmitsText inline numbered ended k pool w w′ out′ r row
+  row-out q d = record { does = λ modes held i n t. along (row-by modes held n (ap number q)) (d .does modes held i n t) }
 
-  pub row-named : {j : ℕ} {out′ : List ℕ} {r : Put} → f ≡ Number j → Ready pool w → Puts put core (label (numberLabel j)) out out′ r → EmitsText inline numbered k pool w w out′ r row
+  pub row-named : {j : ℕ} {out′ : List ℕ} {r : Put} → f ≡ Number j → Ready pool w → Puts put core (label (numberLabel j)) out out′ r → EmitsText inline numbered ended k pool w w out′ r row
   unfolding emitChoice
-  row-named q g d = record { does = λ modes held i n. along (row-by modes held n (ap number q)) (core-emits put w d .does pool g) }
+  row-named q g d = record { does = λ modes held i n t. along (row-by modes held n (ap number q)) (core-emits put w d .does pool g) }

@@ -1,5 +1,6 @@
 // Bytes put into the lent output, or only counted.
 ghost use mathlib.Core.Path.{_≡_};
+ghost use mathlib.Core.List.{_++_};
 ghost use lib.Dec.{ltb};
 ghost use lib.IntN.{pos};
 ghost use Prim.Native.Nat.{_+_, _<_, _≤_, _^_};
@@ -7,6 +8,7 @@ ghost use lib.ListN.{length};
 ghost use lib.Seq.{sets};
 ghost use Rattle.format.specs.Label.{varint, label};
 ghost use Rattle.format.specs.Row.{bytesAt};
+ghost use Rattle.format.specs.Read.{ending};
 ghost use Rattle.format.specs.Write.{littleEndianBytes};
 ghost use Rattle.write_bytes.specs.State.{Puts};
 use super::Put;
@@ -52,12 +54,32 @@ fn is_over(out: &[u8], end: usize) -> bool
     out.len() < end
 }
 
-// A part of the pool.
-pub fn put_part(out: &mut [u8], put: bool, at: usize, pool: &[u8], start: usize, size: usize) -> Put
-    requires { ⌜ (at < 2 ^ 32) × (start + size ≤ length (now pool)) ⌝ }
-    ensures { λ r. ⌜ Puts put at (bytesAt (now (pool .entry)) (record { start = start; size = size })) (now (out .entry)) (now (out .exit)) r ⌝ }
+// The 00 behind a part, where it is `ended` by one.
+fn put_ending(out: &mut [u8], at: usize, ended: bool)
+    requires { ⌜ at + length (ending ended) ≤ length (now out) ⌝ }
+    ensures { λ _. ⌜ now (out .exit) ≡ sets (now (out .entry)) at (ending ended) ⌝ }
 {
-    let end = at + size;
+    if !ended {
+        return;
+    }
+    out[at] = 0;
+}
+
+// A part of the pool, and its ending where it has one. The 00 is put and not copied: behind the part the pool may hold
+// anything, or end.
+pub fn put_part(
+    out: &mut [u8],
+    put: bool,
+    at: usize,
+    pool: &[u8],
+    start: usize,
+    size: usize,
+    ended: bool,
+) -> Put
+    requires { ⌜ (at < 2 ^ 32) × (start + size ≤ length (now pool)) ⌝ }
+    ensures { λ r. ⌜ Puts put at (bytesAt (now (pool .entry)) (record { start = start; size = size }) ++ ending ended) (now (out .entry)) (now (out .exit)) r ⌝ }
+{
+    let end = at + modes::size_with_ending(size, ended);
     if !put {
         return Put::To(end);
     }
@@ -65,6 +87,7 @@ pub fn put_part(out: &mut [u8], put: bool, at: usize, pool: &[u8], start: usize,
         return Put::Full;
     }
     copy(out, at, pool, start, size);
+    put_ending(out, at + size, ended);
     Put::To(end)
 }
 

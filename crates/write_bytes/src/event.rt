@@ -44,7 +44,7 @@ pub fn emit_fixed(
     let Put::To(next) = first else {
         return first;
     };
-    value::part(pool, out, work, put, inline, next, key, start, size)
+    value::part(pool, out, work, put, inline, next, key, start, size, false)
 }
 
 // The integer whose word is a.

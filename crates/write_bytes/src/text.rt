@@ -54,7 +54,8 @@ fn keep(work: &mut [u32], numbered: bool, key: usize, first: usize, second: usiz
     write_literals::add(work, key, first, second);
 }
 
-// Writes the text out: its length in the core, and its bytes. If it takes a number, it is kept by the words `first` and `second`.
+// Writes the text out: its length in the core, its bytes, and where it is `ended` a 00, which its length does not count. If
+// it takes a number, it is kept by the words `first` and `second`.
 fn literal(
     pool: &[u8],
     out: &mut [u8],
@@ -62,6 +63,7 @@ fn literal(
     put: bool,
     inline: bool,
     numbered: bool,
+    ended: bool,
     core: usize,
     key: usize,
     start: usize,
@@ -71,14 +73,14 @@ fn literal(
 ) -> Put
     requires { ⌜ (Ready (now pool) (now work)) × (Within (2 ^ 30) core (now work)) × (key < 32) × (start + size ≤ length (now pool)) × (first < 2 ^ 32) × (second < 2 ^ 32)
         × (numbered ≡ true → KeepsText (now pool) (textsOf (now pool) (getD (storeOf (now work) .literals) key [])) (record { start = start; size = size }) (record { first = first; second = second })) ⌝ }
-    ensures { λ r. ⌜ EmitsText inline numbered key (now (pool .entry)) (now (work .entry)) (now (work .exit)) (now (out .exit)) r
+    ensures { λ r. ⌜ EmitsText inline numbered ended key (now (pool .entry)) (now (work .entry)) (now (work .exit)) (now (out .exit)) r
         (λ modes held. emitChoice put modes held key (bytesAt (now (pool .entry)) (record { start = start; size = size })) none (planOf (now (pool .entry)) (now (out .entry)) (now (work .entry)) core)) ⌝ }
 {
     let front = bytes::put_label(out, put, core, bytes::count_label(size));
     let Put::To(next) = front else {
         return front;
     };
-    let step = value::part(pool, out, work, put, inline, next, key, start, size);
+    let step = value::part(pool, out, work, put, inline, next, key, start, size, ended);
     let Put::To(end) = step else {
         return step;
     };
@@ -86,7 +88,7 @@ fn literal(
     Put::To(end)
 }
 
-// The text of `size` bytes of the pool from `start`.
+// The text of `size` bytes of the pool from `start`: does it take a number, and is it `ended` by a 00?
 pub fn emit_text(
     pool: &[u8],
     out: &mut [u8],
@@ -94,13 +96,14 @@ pub fn emit_text(
     put: bool,
     inline: bool,
     numbered: bool,
+    ended: bool,
     core: usize,
     key: usize,
     start: usize,
     size: usize,
 ) -> Put
     requires { ⌜ (Ready (now pool) (now work)) × (Within (2 ^ 30) core (now work)) × (key < 32) × (start + size ≤ length (now pool)) ⌝ }
-    ensures { λ r. ⌜ EmitsText inline numbered key (now (pool .entry)) (now (work .entry)) (now (work .exit)) (now (out .exit)) r
+    ensures { λ r. ⌜ EmitsText inline numbered ended key (now (pool .entry)) (now (work .entry)) (now (work .exit)) (now (out .exit)) r
         (λ modes held. emitEvent put modes held (record { front = none; body = text key (bytesAt (now (pool .entry)) (record { start = start; size = size })) }) (planOf (now (pool .entry)) (now (out .entry)) (now (work .entry)) core)) ⌝ }
 {
     match choose(pool, work, numbered, key, start, size) {
@@ -112,6 +115,7 @@ pub fn emit_text(
             put,
             inline,
             numbered,
+            ended,
             core,
             key,
             start,

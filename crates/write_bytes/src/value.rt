@@ -1,10 +1,12 @@
 // The bytes of a value: in the core with InlineEverything, else in its key's block.
 ghost use mathlib.Core.Path.{_≡_};
 ghost use mathlib.Core.Bool.{cond};
+ghost use mathlib.Core.List.{_++_};
 ghost use Prim.Native.Nat.{_+_, _<_, _≤_, _^_};
 ghost use lib.ListN.{length};
 ghost use Rattle.format.specs.Label.{label as labelOf, integer};
 ghost use Rattle.format.specs.Row.{bytesAt};
+ghost use Rattle.format.specs.Read.{ending};
 ghost use Rattle.format.specs.Write.{littleEndianBytes};
 ghost use Rattle.write_literals.specs.Words.{Good, Changes};
 ghost use Rattle.write_passes.specs.Plan.{emitBytes};
@@ -54,7 +56,7 @@ fn move_to(work: &mut [u32], put: bool, inline: bool, core: usize, key: usize, a
     core
 }
 
-// The `size` bytes of the pool from `start`.
+// The `size` bytes of the pool from `start`, and a 00 behind them where they are `ended`.
 pub fn part(
     pool: &[u8],
     out: &mut [u8],
@@ -65,16 +67,17 @@ pub fn part(
     key: usize,
     start: usize,
     size: usize,
+    ended: bool,
 ) -> Put
     requires { ⌜ (Good (now work)) × (Within (2 ^ 31) core (now work)) × (key < 32) × (start + size ≤ length (now pool)) × (length (now pool) ≤ 65536) ⌝ }
     ensures { λ r. ⌜ Emits (now (work .entry)) (now (work .exit)) (now (out .entry)) (now (out .exit)) core r
-        (emitBytes put inline key (bytesAt (now (pool .entry)) (record { start = start; size = size }))) ⌝ }
+        (emitBytes put inline key (bytesAt (now (pool .entry)) (record { start = start; size = size }) ++ ending ended)) ⌝ }
 {
     let first = place(work, put, inline, core, key);
     let Put::To(at) = first else {
         return first;
     };
-    let step = bytes::put_part(out, put, at, pool, start, size);
+    let step = bytes::put_part(out, put, at, pool, start, size, ended);
     let Put::To(end) = step else {
         return step;
     };

@@ -79,7 +79,7 @@ module _ (modes : ℕ) (held : ℕ → Held) where
   before-choice : (k : ℕ) (v : Text) (o : Option ℕ) (d : Draft) → Before d (putChoice modes held k v o d)
   unfolding putChoice
   before-choice k v (some j) d = before-label _ d
-  before-choice k v none d = before-more (before-label _ d) (before-more (before-value _ k v _) (before-literal _ k v _))
+  before-choice k v none d = before-more (before-label _ d) (before-more (before-value _ k _ _) (before-literal _ k v _))
 
   pub before-body : (b : Body) (d : Draft) → Before d (putBody modes held b d)
   unfolding putBody

@@ -13,7 +13,7 @@ use Rattle.format.specs.Label.{label}
 use Rattle.format.specs.Modes.{inlineEverything}
 use Rattle.format.specs.Table.{Held}
 use Rattle.format.specs.Row.{Text}
-use Rattle.format.specs.Read.{total, isNumbered}
+use Rattle.format.specs.Read.{total, isNumbered, isEnded, ending}
 use Rattle.format.specs.Write.{Body, nothing, text, value, Event, Draft, addBytes, choose, putLabel, putValue, putLiteral, putFront, putChoice, putBody, putEvents, valuesOf, distinct, differentValues}
 use Rattle.store.specs.Store.{lookup, change}
 use Rattle.laws.specs.Facts.{absurd-bool, by-bool, by-option, by-lt}
@@ -98,7 +98,7 @@ module _ (lent : List ℕ) (modes : ℕ) (held : ℕ → Held) where
       → After (λ q. Lost lent q) (emitChoice false modes held k v none p)
   unfolding emitChoice putChoice putLabel
   lost-text k v p d c few h = after-then _ _ _ _ (count-label lent (pos (length v)) p d c) λ p₁ c₁.
-      after-then _ _ _ _ (count-bytes lent (inlineEverything modes) k v p₁ _ c₁) λ p₂ c₂.
+      after-then _ _ _ _ (count-bytes lent (inlineEverything modes) k (v ++ ending (isEnded modes (held k .leaf))) p₁ _ c₁) λ p₂ c₂.
       (emitLiteral (isNumbered modes (held k)) k v p₂, refl, lost-literal (isNumbered modes (held k)) k v p₂ _ c₂ (rw value-literals few) h)
 
   lost-body : (b : Body) (p : Plan) (d : Draft) → Counted lent p d → total (d .literals) ≤ 4096 → 4096 < total (putBody modes held b d .literals) → After (λ q. Lost lent q) (emitBody false modes held b p)

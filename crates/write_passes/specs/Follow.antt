@@ -1,7 +1,7 @@
 -- A pass follows the draft: what holds of a plan and a draft, and is kept by each label, value and literal, holds after all rows. The counting pass and the writing pass are two such relations.
 use mathlib.Core.Path.{_≡_, refl, ap}
 use mathlib.Core.Bool.{Bool, true, false}
-use mathlib.Core.List.{List, [], _∷_}
+use mathlib.Core.List.{List, [], _∷_, _++_}
 use mathlib.Core.Option.{Option, none, some}
 use Prim.Native.Nat.{ℕ, _≤_, _<_}
 use native.Mathlib.Omega.{arith}
@@ -11,7 +11,7 @@ use Rattle.format.specs.Answer.{Answer, ok, _>>=_}
 use Rattle.format.specs.Modes.{inlineEverything}
 use Rattle.format.specs.Table.{Held}
 use Rattle.format.specs.Row.{Text}
-use Rattle.format.specs.Read.{numberLabel, addAt, total, isNumbered}
+use Rattle.format.specs.Read.{numberLabel, addAt, total, isNumbered, isEnded, ending}
 use Rattle.format.specs.Write.{Body, nothing, text, value, Event, Draft, choose, putLabel, putValue, putLiteral, putFront, putChoice, putBody, putEvents}
 use Rattle.laws.specs.Facts.{ok-bind}
 use Rattle.theory.specs.Lists.{total-add}
@@ -51,10 +51,11 @@ module _ (put : Bool) (modes : ℕ) (held : ℕ → Held) where
     unfolding putChoice emitChoice
     follow-choice k v (some j) p d r h = F .label (numberLabel j) p d r h
     follow-choice k v none p d r h =
+        let bs : List ℕ = v ++ ending (isEnded modes (held k .leaf)) in
         let h₂ = before-more (before-literal (isNumbered modes (held k)) k v _) h in
-        let h₁ = before-more (before-value (inlineEverything modes) k v _) h₂ in
+        let h₁ = before-more (before-value (inlineEverything modes) k bs _) h₂ in
         after-then _ _ _ _ (F .label (pos (length v)) p d r h₁) λ p₁ r₁.
-        after-then _ _ _ _ (F .value k v p₁ _ r₁ h₂) λ p₂ r₂.
+        after-then _ _ _ _ (F .value k bs p₁ _ r₁ h₂) λ p₂ r₂.
         (emitLiteral (isNumbered modes (held k)) k v p₂, refl, follow-literal (isNumbered modes (held k)) k v p₂ _ r₂ h)
 
     pub follow-front : (f : Option ℤ) (p : Plan) (d : Draft) → P p d → Before (putFront f d) last → After (λ q. P q (putFront f d)) (emitFront put f p)

@@ -3,17 +3,17 @@ use mathlib.Core.Path.{_≡_, refl, sym, _∙_}
 use mathlib.Core.Bool.{Bool, true, false}
 use mathlib.Core.List.{List, [], _∷_, _++_}
 use mathlib.Core.Option.{Option, none, some}
-use Prim.Native.Nat.{ℕ, _+_, _≤_}
+use Prim.Native.Nat.{ℕ, suc, _+_, _≤_}
 use native.Mathlib.Omega.{arith}
 use lib.IntN.{ℤ, pos}
-use lib.ListN.{length}
+use lib.ListN.{length, length-append}
 use lib.Seq.{length-sets}
 use Rattle.format.specs.Answer.{Answer, ok, refuse, _>>=_}
 use Rattle.format.specs.Label.{label}
 use Rattle.format.specs.Modes.{inlineEverything}
 use Rattle.format.specs.Table.{Held}
 use Rattle.format.specs.Row.{Text}
-use Rattle.format.specs.Read.{numberLabel, total, isNumbered}
+use Rattle.format.specs.Read.{numberLabel, total, isNumbered, isEnded, ending}
 use Rattle.format.specs.Write.{Body, nothing, text, value, Event}
 use Rattle.label.specs.Laws.{label-most}
 use Rattle.store.specs.Store.{lookup}
@@ -121,10 +121,10 @@ literal-moves put true k v p = by-lt (total (p .literals)) 4096
     (λ l. rw (literal-kept k v p l) (record { out = λ e. refl; room = refl; core = omega arith; slots = omega arith; apart = λ a. a; over = λ e. e }))
     (λ l. rw (literal-over k v p l) (record { out = λ e. refl; room = refl; core = omega arith; slots = omega arith; apart = λ a. a; over = λ e. refl }))
 
--- how many bytes a row writes beside its labels
+-- how many bytes a row writes at most beside its labels
 unfoldable pub bodySize : Body → ℕ
 bodySize nothing = 0
-bodySize (text k v) = length v
+bodySize (text k v) = suc (length v)  -- a 00 may stand behind it
 bodySize (value k bs) = length bs
 
 -- two labels of at most ten bytes stand in front of it
@@ -132,17 +132,24 @@ unfoldable pub mostBytes : List Event → ℕ
 mostBytes [] = 0
 mostBytes (e ∷ es) = 20 + bodySize (e .body) + mostBytes es
 
+pub ending-most : (b : Bool) → length (ending b) ≤ 1
+unfolding ending
+ending-most true = omega arith
+ending-most false = omega arith
+
 front-moves : (put : Bool) (f : Option ℤ) (p : Plan) → Step put 10 p (emitFront put f p)
 unfolding emitFront
 front-moves put none p = fine (moves-more put 0 10 p p (omega arith) (moves-not put p))
 front-moves put (some l) p = label-moves put l p
 
 module _ (put : Bool) (modes : ℕ) (held : ℕ → Held) where
-  choice-moves : (k : ℕ) (v : Text) (o : Option ℕ) (p : Plan) → Step put (10 + length v) p (emitChoice put modes held k v o p)
+  choice-moves : (k : ℕ) (v : Text) (o : Option ℕ) (p : Plan) → Step put (10 + suc (length v)) p (emitChoice put modes held k v o p)
   unfolding emitChoice
-  choice-moves k v (some j) p = step-more put 10 (10 + length v) p _ (omega arith) (label-moves put (numberLabel j) p)
-  choice-moves k v none p = step-then put 10 (length v) p _ _ (label-moves put (pos (length v)) p) (λ p₁.
-      step-more put (length v + 0) (length v) p₁ _ (omega arith) (step-then put (length v) 0 p₁ _ _ (bytes-moves put (inlineEverything modes) k v p₁) (λ p₂. fine (literal-moves put (isNumbered modes (held k)) k v p₂))))
+  choice-moves k v (some j) p = step-more put 10 (10 + suc (length v)) p _ (omega arith) (label-moves put (numberLabel j) p)
+  choice-moves k v none p = step-then put 10 (suc (length v)) p _ _ (label-moves put (pos (length v)) p) (λ p₁.
+      let bs : List ℕ = v ++ ending (isEnded modes (held k .leaf)) in
+      step-more put (length bs + 0) (suc (length v)) p₁ _ (omega (arith, length-append v (ending (isEnded modes (held k .leaf))), ending-most (isEnded modes (held k .leaf))))
+      (step-then put (length bs) 0 p₁ _ _ (bytes-moves put (inlineEverything modes) k bs p₁) (λ p₂. fine (literal-moves put (isNumbered modes (held k)) k v p₂))))
 
   body-moves : (b : Body) (p : Plan) → Step put (10 + bodySize b) p (emitBody put modes held b p)
   unfolding emitBody emitText bodySize
@@ -159,10 +166,10 @@ module _ (put : Bool) (modes : ℕ) (held : ℕ → Held) where
   events-move [] p = fine (moves-not put p)
   events-move (e ∷ es) p = step-then put (20 + bodySize (e .body)) (mostBytes es) p _ _ (event-moves e p) (λ q. events-move es q)
 
--- Each row goes at most 65,556 bytes further, counting or writing.
+-- Each row goes at most 65,557 bytes further, counting or writing.
 module _ (put : Bool) (modes : ℕ) (held : ℕ → Held) where
-  pub within-event : (e : Event) (m : ℕ) (p q : Plan) → bodySize (e .body) ≤ 65536 → Within m p → emitEvent put modes held e p ≡ ok q → Within (m + 65556) q
-  within-event e m p q l w h = within-moves put m 65556 p q w (moves-more put _ 65556 p q (omega arith) (fine-is put _ _ q (event-moves put modes held e p) h))
+  pub within-event : (e : Event) (m : ℕ) (p q : Plan) → bodySize (e .body) ≤ 65537 → Within m p → emitEvent put modes held e p ≡ ok q → Within (m + 65557) q
+  within-event e m p q l w h = within-moves put m 65557 p q w (moves-more put _ 65557 p q (omega arith) (fine-is put _ _ q (event-moves put modes held e p) h))
 
   pub events-apart : (es : List Event) (p q : Plan) → Apart (p .slots) → emitEvents put modes held es p ≡ ok q → Apart (q .slots)
   events-apart es p q a h = fine-is put _ _ q (events-move put modes held es p) h .apart a

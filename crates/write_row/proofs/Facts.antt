@@ -1,6 +1,6 @@
 -- One row, at each return of a function: it is refused, or what it writes has been emitted. Assumes nothing.
 use mathlib.Core.Path.{_≡_, refl, sym, ap, _∙_}
-use mathlib.Core.Bool.{Bool, true, false, not, _||_, or-assoc}
+use mathlib.Core.Bool.{Bool, true, false, not, _&&_, _||_, or-assoc}
 use mathlib.Core.List.{List, [], _∷_}
 use mathlib.Core.Option.{none, some}
 use Prim.Native.Nat.{ℕ, zero, suc, _+_, _^_, _<_, _≤_}
@@ -79,14 +79,14 @@ module _ {put : Bool} {pool rows out out′ : List ℕ} {i core : ℕ} {a : Answ
   }
 
 -- a value and a text of a key
-body-size : (labelled : Bool) (k : ℕ) (bs : List ℕ) → length bs ≤ 65536 → bodySize (unlabelled labelled (value k bs) .body) ≤ 65536
+body-size : (labelled : Bool) (k : ℕ) (bs : List ℕ) → length bs ≤ 65536 → bodySize (unlabelled labelled (value k bs) .body) ≤ 65537
 unfolding unlabelled bodySize
-body-size true k bs h = h
-body-size false k bs h = h
+body-size true k bs h = omega arith
+body-size false k bs h = omega arith
 
-text-size : (k : ℕ) (v : Text) → length v ≤ 65536 → bodySize (text k v) ≤ 65536
+text-size : (k : ℕ) (v : Text) → length v ≤ 65536 → bodySize (text k v) ≤ 65537
 unfolding bodySize
-text-size k v h = h
+text-size k v h = omega arith
 
 part-short : (pool : List ℕ) (p : Place) → p .start + p .size ≤ length pool → length pool ≤ 65536 → length (bytesAt pool p) ≤ 65536
 part-short pool p h l = simp (length-take, length-drop) (omega arith)
@@ -95,16 +95,16 @@ module _ {how : Pass} {pool rows out w out′ w′ : List ℕ} {core : ℕ} {a :
   pub value-refuses : {n j : ℕ} → a ≡ refuse n j → WritesValue how pool rows out w core out′ w′ (Refused n j) a
   value-refuses {n} {j} e = record { writes = λ modes held z. along e (refuses n j) }
 
-  value-writes : {i : ℕ} {e : Event} {s : Put} {r : Progress} → Holds pool rows w i core → i < rowCount rows → bodySize (e .body) ≤ 65536
+  value-writes : {i : ℕ} {e : Event} {s : Put} {r : Progress} → Holds pool rows w i core → i < rowCount rows → bodySize (e .body) ≤ 65537
       → EmitsEvent (how .put) (how .inline) w w′ out out′ core s e → r ≡ rowProgress i s → a ≡ ok (e ∷ [], restOf pool rows (i + 1)) → WritesValue how pool rows out w core out′ w′ r a
   value-writes h t b d q e = record { writes = λ modes held z. along e (row-writes h t b (d .emits modes held z .does pool (h .ready)) q) }
 
-  text-refuses : {numbered : Bool} {k n j : ℕ} → a ≡ refuse n j → WritesText how numbered k pool rows out w core out′ w′ (Refused n j) a
-  text-refuses {n = n} {j} e = record { writes = λ modes held z y. along e (refuses n j) }
+  text-refuses : {numbered ended : Bool} {k n j : ℕ} → a ≡ refuse n j → WritesText how numbered ended k pool rows out w core out′ w′ (Refused n j) a
+  text-refuses {n = n} {j} e = record { writes = λ modes held z y x. along e (refuses n j) }
 
-  -- a value that is no text is written so whether its key's texts are numbered or not
-  pub as-text : {numbered : Bool} {k : ℕ} {r : Progress} → WritesValue how pool rows out w core out′ w′ r a → WritesText how numbered k pool rows out w core out′ w′ r a
-  as-text d = record { writes = λ modes held z y. d .writes modes held z }
+  -- a value that is no text is written so whether its key's texts are numbered or not, and ended or not
+  pub as-text : {numbered ended : Bool} {k : ℕ} {r : Progress} → WritesValue how pool rows out w core out′ w′ r a → WritesText how numbered ended k pool rows out w core out′ w′ r a
+  as-text d = record { writes = λ modes held z y x. d .writes modes held z }
 
 -- ---- what a BLOCK holds
 
@@ -133,9 +133,9 @@ or-of true y z = refl
 or-of false y z = sym y ∙ z
 
 -- what a text has emitted
-abbrev Texts : Pass → Bool → ℕ → List ℕ → List ℕ → List ℕ → List ℕ → List ℕ → ℕ → Put → Place → Type 0
-Texts how numbered k pool out w out′ w′ core s p =
-    EmitsText (how .inline) numbered k pool w w′ out′ s (λ modes held. emitEvent (how .put) modes held (record { front = none; body = text k (bytesAt pool p) }) (planOf pool out w core))
+abbrev Texts : Pass → Bool → Bool → ℕ → List ℕ → List ℕ → List ℕ → List ℕ → List ℕ → ℕ → Put → Place → Type 0
+Texts how numbered ended k pool out w out′ w′ core s p =
+    EmitsText (how .inline) numbered ended k pool w w′ out′ s (λ modes held. emitEvent (how .put) modes held (record { front = none; body = text k (bytesAt pool p) }) (planOf pool out w core))
 
 module _ {how : Pass} {pool rows out w out′ w′ : List ℕ} {i core : ℕ} (h : Holds pool rows w i core) (k node : ℕ) where
   module _ (labelled : Bool) where
@@ -172,28 +172,28 @@ module _ {how : Pass} {pool rows out w out′ w′ : List ℕ} {i core : ℕ} (h
         fixed-some z d q = value-writes h (place-there pool rows node i fixedRow e) (body-size labelled k (bytesAt pool p) (part-short pool p l (h .ready .small))) d q (fixed-is pool rows node i k labelled n e (part-length pool p l ∙ z))
 
   -- a text
-  module _ {numbered : Bool} where
-    text-writes : (p : Place) {a : Answer (List Event × Rest)} {s : Put} {r : Progress} → i < rowCount rows → p .start + p .size ≤ length pool → Texts how numbered k pool out w out′ w′ core s p → r ≡ rowProgress i s
-        → a ≡ ok (record { front = none; body = text k (bytesAt pool p) } ∷ [], restOf pool rows (i + 1)) → WritesText how numbered k pool rows out w core out′ w′ r a
-    text-writes p t l d q e = record { writes = λ modes held z y. along e (row-writes h t (text-size k (bytesAt pool p) (part-short pool p l (h .ready .small))) (d .does modes held z y) q) }
+  module _ {numbered ended : Bool} where
+    text-writes : (p : Place) {a : Answer (List Event × Rest)} {s : Put} {r : Progress} → i < rowCount rows → p .start + p .size ≤ length pool → Texts how numbered ended k pool out w out′ w′ core s p → r ≡ rowProgress i s
+        → a ≡ ok (record { front = none; body = text k (bytesAt pool p) } ∷ [], restOf pool rows (i + 1)) → WritesText how numbered ended k pool rows out w core out′ w′ r a
+    text-writes p t l d q e = record { writes = λ modes held z y x. along e (row-writes h t (text-size k (bytesAt pool p) (part-short pool p l (h .ready .small))) (d .does modes held z y x) q) }
 
     module _ (judged : Bool) where
-      pub text-none : placeIn (textRow judged) (looked pool rows node i) ≡ none → WritesText how numbered k pool rows out w core out′ w′ (Refused 42 i) (fitLeaf k (textLeaf judged) node false (restOf pool rows i))
+      pub text-none : placeIn (textRow judged) (looked pool rows node i) ≡ none → WritesText how numbered ended k pool rows out w core out′ w′ (Refused 42 i) (fitLeaf k (textLeaf judged) node false (restOf pool rows i))
       text-none e = text-refuses (text-not pool rows node i k false judged e)
 
       module _ (p : Place) (l : p .start + p .size ≤ length pool) (e : placeIn (textRow judged) (looked pool rows node i) ≡ some p) where
-        pub text-28 : (how .put || not judged || isText (bytesAt pool p)) ≡ false → WritesText how numbered k pool rows out w core out′ w′ (Refused 28 i) (fitLeaf k (textLeaf judged) node false (restOf pool rows i))
+        pub text-28 : (how .put || not judged || isText (bytesAt pool p)) ≡ false → WritesText how numbered ended k pool rows out w core out′ w′ (Refused 28 i) (fitLeaf k (textLeaf judged) node false (restOf pool rows i))
         text-28 z = text-refuses (text-stray pool rows node i k false judged e (or-false (how .put) _ (sym (or-assoc (how .put) (not judged) _) ∙ z) .1))
 
-        module _ {s : Put} {r : Progress} (d : Texts how numbered k pool out w out′ w′ core s p) (q : r ≡ rowProgress i s) where
-          text-good : (not judged || isText (bytesAt pool p)) ≡ true → WritesText how numbered k pool rows out w core out′ w′ r (fitLeaf k (textLeaf judged) node false (restOf pool rows i))
+        module _ {s : Put} {r : Progress} (d : Texts how numbered ended k pool out w out′ w′ core s p) (q : r ≡ rowProgress i s) where
+          text-good : (not judged || isText (bytesAt pool p)) ≡ true → WritesText how numbered ended k pool rows out w core out′ w′ r (fitLeaf k (textLeaf judged) node false (restOf pool rows i))
           text-good z = text-writes p (place-there pool rows node i (textRow judged) e) l d q (text-is pool rows node i k false judged e z)
 
           -- where it is no text nothing is said of what is put
-          text-put : how .put ≡ true → (not judged || isText (bytesAt pool p)) ≡ false → WritesText how numbered k pool rows out w core out′ w′ r (fitLeaf k (textLeaf judged) node false (restOf pool rows i))
-          text-put y z = record { writes = λ modes held a b. along (text-stray pool rows node i k false judged e z) (puts-any 28 i y (text-writes p (place-there pool rows node i (textRow judged) e) l d q refl .writes modes held a b)) }
+          text-put : how .put ≡ true → (not judged || isText (bytesAt pool p)) ≡ false → WritesText how numbered ended k pool rows out w core out′ w′ r (fitLeaf k (textLeaf judged) node false (restOf pool rows i))
+          text-put y z = record { writes = λ modes held a b x. along (text-stray pool rows node i k false judged e z) (puts-any 28 i y (text-writes p (place-there pool rows node i (textRow judged) e) l d q refl .writes modes held a b x)) }
 
-          pub text-some : (how .put || not judged || isText (bytesAt pool p)) ≡ true → WritesText how numbered k pool rows out w core out′ w′ r (fitLeaf k (textLeaf judged) node false (restOf pool rows i))
+          pub text-some : (how .put || not judged || isText (bytesAt pool p)) ≡ true → WritesText how numbered ended k pool rows out w core out′ w′ r (fitLeaf k (textLeaf judged) node false (restOf pool rows i))
           text-some z = by-bool (not judged || isText (bytesAt pool p)) text-good (λ y. text-put (or-of (how .put) y (sym (or-assoc (how .put) (not judged) _) ∙ z)) y)
 
 -- ---- a truth, a record, and what stands in front of a value
@@ -248,8 +248,8 @@ not-judged (code.the-variants.Fixed n) h = refl
 
 module _ {how : Pass} {pool rows out w out′ w′ : List ℕ} {core k : ℕ} {r : Progress} {numbered : Bool} (node i : ℕ) (labelled : Bool) where
   -- the tags are those of the code's `String` and `Bytes`
-  pub held-text : {b : Bool} (l : code.Leaf) → OneOf (0 ∷ 3 ∷ []) (tagOf the-type l) → b ≡ isJudged l → WritesText how numbered k pool rows out w core out′ w′ r (fitLeaf k (textLeaf b) node false (restOf pool rows i))
-      → WritesText how numbered k pool rows out w core out′ w′ r (fitLeaf k (leafOf l) node labelled (restOf pool rows i))
+  pub held-text : {b : Bool} (l : code.Leaf) → OneOf (0 ∷ 3 ∷ []) (tagOf the-type l) → b ≡ isJudged l → WritesText how numbered (b && how .ends) k pool rows out w core out′ w′ r (fitLeaf k (textLeaf b) node false (restOf pool rows i))
+      → WritesText how numbered (isJudged l && how .ends) k pool rows out w core out′ w′ r (fitLeaf k (leafOf l) node labelled (restOf pool rows i))
   unfolding leafOf fitLeaf
   held-text code.the-variants.String h q d = rw q at d
   held-text code.the-variants.Varint h q d = absurd (miss (0 ∷ 3 ∷ []) 1 tt h)
@@ -257,6 +257,6 @@ module _ {how : Pass} {pool rows out w out′ w′ : List ℕ} {core k : ℕ} {r
   held-text code.the-variants.Bytes h q d = rw q at d
   held-text (code.the-variants.Fixed n) h q d = absurd (miss (0 ∷ 3 ∷ []) 4 tt h)
 
-  pub held-value : {l l₁ : code.Leaf} → l ≡ l₁ → WritesValue how pool rows out w core out′ w′ r (fitLeaf k (leafOf l₁) node labelled (restOf pool rows i))
-      → WritesText how numbered k pool rows out w core out′ w′ r (fitLeaf k (leafOf l) node labelled (restOf pool rows i))
+  pub held-value : {ended : Bool} {l l₁ : code.Leaf} → l ≡ l₁ → WritesValue how pool rows out w core out′ w′ r (fitLeaf k (leafOf l₁) node labelled (restOf pool rows i))
+      → WritesText how numbered ended k pool rows out w core out′ w′ r (fitLeaf k (leafOf l) node labelled (restOf pool rows i))
   held-value q d = rw q (as-text d)

@@ -9,7 +9,7 @@ use Rattle.format.specs.Answer.{Answer, ok}
 use Rattle.format.specs.Modes.{inlineEverything}
 use Rattle.format.specs.Table.{Held, Node, wireOf, topOf, Leaf, string, varint, float64, bytes, fixed}
 use Rattle.format.specs.Row.{rowCount}
-use Rattle.format.specs.Read.{isNumbered}
+use Rattle.format.specs.Read.{isNumbered, isEnded}
 use Rattle.format.specs.Write.{Event, Rest, mark, fitWire}
 use Rattle.write_passes.specs.Plan.{emitEvent}
 use Rattle.write_passes.specs.Laws.{emit-one}
@@ -36,13 +36,13 @@ rowProgress i (To core) = Done (i + 1) core
 rowProgress i Full = Refused 43 0
 
 -- A row that fits and writes the event e.
-module _ {put : Bool} {modes : ℕ} {held : ℕ → Held} {pool rows out w out′ w′ : List ℕ} {i core : ℕ} {e : Event} {s : Put} (h : Holds pool rows w i core) (t : i < rowCount rows) (short : bodySize (e .body) ≤ 65536)
+module _ {put : Bool} {modes : ℕ} {held : ℕ → Held} {pool rows out w out′ w′ : List ℕ} {i core : ℕ} {e : Event} {s : Put} (h : Holds pool rows w i core) (t : i < rowCount rows) (short : bodySize (e .body) ≤ 65537)
     (d : Does pool w w′ out′ s (emitEvent put modes held e (planOf pool out w core))) where
   row-done : {core′ : ℕ} → s ≡ To core′ → Writes put modes held pool rows out w core out′ w′ (Done (i + 1) core′) (ok (e ∷ [], restOf pool rows (i + 1)))
   row-done {core′} q =
       let l = does-done _ d q in
       let p₁ = planOf pool out′ w′ core′ in
-      let b : moves.Within (mostBefore i + 65556) p₁ = within-event put modes held e (mostBefore i) (planOf pool out w core) p₁ short (record { core = h .within .first; slots = h .within .others }) (l .is) in
+      let b : moves.Within (mostBefore i + 65557) p₁ = within-event put modes held e (mostBefore i) (planOf pool out w core) p₁ short (record { core = h .within .first; slots = h .within .others }) (l .is) in
       record {
         left = (record { ready = l .ready; within = record { first = omega (arith, b .core); others = omega (arith, b .slots) }; inside = omega arith; few = h .few }, l .same);
         acts = rw (emit-one put modes held e (planOf pool out w core) ∙ l .is) (refl, refl, refl);
@@ -79,12 +79,12 @@ module _ (put omittable nullable : Bool) (pool rows out out′ : List ℕ) (node
   Opens (Gone r) = OpensGone r
   Opens (Here labelled) = OpensHere labelled
 
--- A value of a key, in any modes that are InlineEverything or not; and a text, where they number the key's literals or not.
+-- A value of a key, in any modes that are InlineEverything or not; and a text, where they number the key's literals or not, and put a 00 behind them or not.
 pub record WritesValue (how : Pass) (pool rows out w : List ℕ) (core : ℕ) (out′ w′ : List ℕ) (r : Progress) (a : Answer (List Event × Rest)) : Type 0 where
   pub writes : (modes : ℕ) (held : ℕ → Held) → inlineEverything modes ≡ how .inline → Writes (how .put) modes held pool rows out w core out′ w′ r a
 
-pub record WritesText (how : Pass) (numbered : Bool) (key : ℕ) (pool rows out w : List ℕ) (core : ℕ) (out′ w′ : List ℕ) (r : Progress) (a : Answer (List Event × Rest)) : Type 0 where
-  pub writes : (modes : ℕ) (held : ℕ → Held) → inlineEverything modes ≡ how .inline → isNumbered modes (held key) ≡ numbered → Writes (how .put) modes held pool rows out w core out′ w′ r a
+pub record WritesText (how : Pass) (numbered ended : Bool) (key : ℕ) (pool rows out w : List ℕ) (core : ℕ) (out′ w′ : List ℕ) (r : Progress) (a : Answer (List Event × Rest)) : Type 0 where
+  pub writes : (modes : ℕ) (held : ℕ → Held) → inlineEverything modes ≡ how .inline → isNumbered modes (held key) ≡ numbered → isEnded modes (held key .leaf) ≡ ended → Writes (how .put) modes held pool rows out w core out′ w′ r a
 
 -- what a key holds, from the code's name for it
 unfoldable pub leafOf : code.Leaf → Leaf

@@ -1,6 +1,6 @@
 // The row of a value that a BLOCK holds, under the topmost node, which is the BLOCK or a NULLABLE above it.
 ghost use mathlib.Core.Path.{_≡_};
-ghost use mathlib.Core.Bool.{false, _||_};
+ghost use mathlib.Core.Bool.{false, _&&_, _||_};
 ghost use Prim.Native.Nat.{_<_, _≤_};
 ghost use lib.ListN.{length};
 ghost use lib.Seq.{slice};
@@ -52,7 +52,8 @@ fn kind_of(judged: bool) -> u64
     kind::BYTES
 }
 
-// A STRING, whose text is judged, or BYTES. The pass that puts does not judge again: the one that counts has done so.
+// A STRING, whose text is judged and may be ended by a 00, or BYTES. The pass that puts does not judge again: the one that
+// counts has done so.
 fn text(
     rows: &[u64],
     pool: &[u8],
@@ -67,8 +68,9 @@ fn text(
     core: usize,
 ) -> Progress
     requires { ⌜ (Holds (now pool) (now rows) (now work) i core) × (key < 32) ⌝ }
-    ensures { λ r. ⌜ WritesText how numbered key (now (pool .entry)) (now (rows .entry)) (now (out .entry)) (now (work .entry)) core (now (out .exit)) (now (work .exit)) r (fitLeaf key (textLeaf judged) node false (restOf (now (pool .entry)) (now (rows .entry)) i)) ⌝ }
+    ensures { λ r. ⌜ WritesText how numbered (judged && how .ends) key (now (pool .entry)) (now (rows .entry)) (now (out .entry)) (now (work .entry)) core (now (out .exit)) (now (work .exit)) r (fitLeaf key (textLeaf judged) node false (restOf (now (pool .entry)) (now (rows .entry)) i)) ⌝ }
 {
+    let ended = judged & how.ends;
     let Placed::At(start, size) = rows::place_under(rows, pool, node as u64, kind_of(judged), i)
     else {
         return Progress::Refused(42, i as u64);
@@ -85,6 +87,7 @@ fn text(
             how.put,
             how.inline,
             numbered,
+            ended,
             core,
             key,
             start,
@@ -196,7 +199,7 @@ pub fn leaf(
     core: usize,
 ) -> Progress
     requires { ⌜ (Holds (now pool) (now rows) (now work) i core) × (key < 32) ⌝ }
-    ensures { λ r. ⌜ WritesText how numbered key (now (pool .entry)) (now (rows .entry)) (now (out .entry)) (now (work .entry)) core (now (out .exit)) (now (work .exit)) r (fitLeaf key (leafOf leaf) node labelled (restOf (now (pool .entry)) (now (rows .entry)) i)) ⌝ }
+    ensures { λ r. ⌜ WritesText how numbered (isJudged leaf && how .ends) key (now (pool .entry)) (now (rows .entry)) (now (out .entry)) (now (work .entry)) core (now (out .exit)) (now (work .exit)) r (fitLeaf key (leafOf leaf) node labelled (restOf (now (pool .entry)) (now (rows .entry)) i)) ⌝ }
 {
     match leaf {
         Leaf::Varint => varint(rows, pool, out, work, how, labelled, key, node, i, core),

@@ -29,6 +29,8 @@ pub struct Pass {
     pub inline: bool,
     // NoDeduplication is clear
     pub numbers: bool,
+    // NullTerminatedStrings: a 00 stands behind the literal of a STRING
+    pub ends: bool,
 }
 
 // A value that is not there and has been written so, or that was refused; or the value is here, with a label in front or none.

@@ -10,11 +10,11 @@ use lib.IntN.{ℤ, pos}
 use lib.ListN.{length}
 use Rattle.format.specs.Answer.{Answer, ok, refuse, _>>=_}
 use Rattle.format.specs.Label.{integer}
-use Rattle.format.specs.Modes.{noDeduplication}
+use Rattle.format.specs.Modes.{nullTerminatedStrings, noDeduplication}
 use Rattle.format.specs.Table.{nodeAt, deduplicate, BOOLEAN, RECORD, ARRAY, BLOCK, NULLABLE, Wire, array, fields, Node, Fields, wireOf, Leaf, string, varint, float64, bytes, fixed}
 use Rattle.format.specs.Table as tables
 use Rattle.format.specs.Row.{rowCount, arrayRow}
-use Rattle.format.specs.Read.{isNumbered, fieldCount}
+use Rattle.format.specs.Read.{isNumbered, isEnded, fieldCount}
 use Rattle.format.specs.Write.{Event, Rest, Fit, mark, fitEntries, fitField, fitLeaf, fitWire, fitNode, fitAll}
 use Rattle.label.specs.Laws.{integer-low}
 use Rattle.laws.specs.Facts.{by-lt}
@@ -38,7 +38,7 @@ use Rattle.write_row.specs.Laws.{joined, along, refuses, done-holds, seqs, seqs
 use Rattle.write_row.specs.Used.{node-uses, entries-use}
 use Rattle.write_row.specs.Fits.{looked, value-there}
 use Rattle.write_row.specs.Opens.{fitValue, fitTruth, boolean-truth, fitRecord, record-first, array-not, array-is}
-use Rattle.write_row.specs.Row.{Marks, WritesRow, OpensGone, OpensHere, Opens, WritesText, leafOf}
+use Rattle.write_row.specs.Row.{Marks, WritesRow, OpensGone, OpensHere, Opens, WritesText, leafOf, isJudged}
 use Rattle.write_walk.specs.Pass.{WritesBy, WritesNode, WritesWire, WritesFields, WritesEntries}
 
 -- a row that has to do with no work, done
@@ -55,6 +55,15 @@ leaf-back varint = refl
 leaf-back float64 = refl
 leaf-back bytes = refl
 leaf-back (fixed n) = refl
+
+-- a text that is judged is a STRING, and so it is ended where the modes end one
+ended-is : (modes : ℕ) (l : code.Leaf) → isEnded modes (leafOf l) ≡ (isJudged l && nullTerminatedStrings modes)
+unfolding leafOf isEnded
+ended-is modes code.the-variants.String = refl
+ended-is modes code.the-variants.Varint = refl
+ended-is modes code.the-variants.Float64 = refl
+ended-is modes code.the-variants.Bytes = refl
+ended-is modes (code.the-variants.Fixed n) = refl
 
 -- a row's function asks this of where it begins
 pub begins : {pool rows w : List ℕ} {i core : ℕ} → Holds pool rows w i core → (i ≤ 8192) × (core < 2 ^ 32)
@@ -198,12 +207,13 @@ module _ (how : Pass) (table pool rows out w : List ℕ) (i core node : ℕ) (ho
 
     module _ {out′ w′ : List ℕ} {r : Progress} {labelled numbered : Bool} {key : ℕ} {l : code.Leaf} where
       pub block-writes : nodeAt table node .kind ≡ BLOCK → key ≡ nodeAt table node .argument → l ≡ leafIn (tables.leafOf (nodeAt table (node + 1))) → numbered ≡ (deduplicate (nodeAt table node) && how .numbers)
-          → WritesText how numbered key pool rows out w core out′ w′ r (fitLeaf key (leafOf l) top labelled (restOf pool rows i)) → WritesWire how table pool rows out w core out′ w′ r i node top labelled
+          → WritesText how numbered (isJudged l && how .ends) key pool rows out w core out′ w′ r (fitLeaf key (leafOf l) top labelled (restOf pool rows i)) → WritesWire how table pool rows out w core out′ w′ r i node top labelled
       unfolding fitWire isNumbered
       block-writes k a e n d = record {
         writes = λ modes s v h. by-block _ _ _ _ (λ u. WritesBy how table pool rows out w core out′ w′ r i modes (fitWire (heldIn table) u top labelled)) node v h k
             (λ g.
             let x : leafOf l ≡ heldIn table (nodeAt table node .argument) .leaf = ap leafOf (e ∙ leaf-held g) ∙ leaf-back _ in
             let y : isNumbered modes (heldIn table key) ≡ numbered = ap (λ j. heldIn table j .dedup && not (noDeduplication modes)) a ∙ ap₂ _&&_ (sym (dedup-held g)) (s .numbers) ∙ sym n in
-            along (sym (ap₂ (λ (j : ℕ) (z : Leaf). fitLeaf j z top labelled (restOf pool rows i)) a x)) (d .writes modes (heldIn table) (s .inline) y));
+            let t : isEnded modes (heldIn table key .leaf) ≡ (isJudged l && how .ends) = ap (λ j. isEnded modes (heldIn table j .leaf)) a ∙ ap (isEnded modes) (sym x) ∙ ended-is modes l ∙ ap (λ b. isJudged l && b) (s .ends) in
+            along (sym (ap₂ (λ (j : ℕ) (z : Leaf). fitLeaf j z top labelled (restOf pool rows i)) a x)) (d .writes modes (heldIn table) (s .inline) y t));
       }

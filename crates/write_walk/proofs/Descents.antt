@@ -85,7 +85,7 @@ module _ (put : Bool) (table pool rows out₀ : List ℕ) (core₀ i₀ node₀ 
 
     pub still-stands : Stands table pool rows i₀ core₀ node₀ → Stands table pool rows i core node
     still-stands s =
-        let y = x .remaining (record { put = put; inline = false; numbers = false }) refl (s .work) (s .holds) (s .fits) in
+        let y = x .remaining (record { put = put; inline = false; numbers = false; ends = false }) refl (s .work) (s .holds) (s .fits) in
         record { work = s .work; left = s .left - (node - node₀); holds = y .holds; fits = y .fits }
 
     module _ (whole : Sized table) (z : o ≡ false) (array : Bool) (a : Alone table pool rows node i (One array)) {out₁ : List ℕ} where

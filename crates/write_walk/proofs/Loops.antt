@@ -7,7 +7,7 @@ use native.Mathlib.Numerals.{sub-one}
 use native.Mathlib.Omega.{arith}
 use lib.ListN.{length}
 use Rattle.format.specs.Answer.{Answer, ok, _>>=_}
-use Rattle.format.specs.Modes.{has, inlineEverything, noDeduplication}
+use Rattle.format.specs.Modes.{has, inlineEverything, nullTerminatedStrings, noDeduplication}
 use Rattle.format.specs.Table.{nodeAt, omittable, Node, Fields, field, Held}
 use Rattle.format.specs.Read.{fieldCount}
 use Rattle.format.specs.Write.{Event, Rest, Fit, fitEntries, fitAll}
@@ -29,13 +29,17 @@ use Rattle.write_walk.specs.Pass.{Suits, WritesBy, WritesNode, WritesFie
 -- there are modes for every pass
 pub some-modes : (how : Pass) → (modes : ℕ) × Suits how modes
 unfolding has
-some-modes how = let (modes, i, n) = go (how .inline) (how .numbers) in (modes, record { inline = i; numbers = n })
+some-modes how = let (modes, i, n, t) = go (how .inline) (how .numbers) (how .ends) in (modes, record { inline = i; numbers = n; ends = t })
   where
-    go : (a b : Bool) → (modes : ℕ) × (inlineEverything modes ≡ a) × (not (noDeduplication modes) ≡ b)
-    go false true = (0, refl, refl)
-    go true true = (1, refl, refl)
-    go false false = (32, refl, refl)
-    go true false = (33, refl, refl)
+    go : (a b c : Bool) → (modes : ℕ) × (inlineEverything modes ≡ a) × (not (noDeduplication modes) ≡ b) × (nullTerminatedStrings modes ≡ c)
+    go false true false = (0, refl, refl, refl)
+    go true true false = (1, refl, refl, refl)
+    go false true true = (16, refl, refl, refl)
+    go true true true = (17, refl, refl, refl)
+    go false false false = (32, refl, refl, refl)
+    go true false false = (33, refl, refl, refl)
+    go false false true = (48, refl, refl, refl)
+    go true false true = (49, refl, refl, refl)
 
 pub node-as : {how : Pass} {table pool rows out w : List ℕ} {core i node : ℕ} {out′ w′ : List ℕ} {r : Progress} {o o₁ : Bool} → o ≡ o₁
     → WritesNode how table pool rows out w core out′ w′ r i node o → WritesNode how table pool rows out w core out′ w′ r i node o₁

@@ -3,7 +3,7 @@ use mathlib.Core.Path.{_≡_}
 use mathlib.Core.Bool.{Bool, true, false, not}
 use mathlib.Core.List.{List}
 use Prim.Native.Nat.{ℕ}
-use Rattle.format.specs.Modes.{inlineEverything, noDeduplication}
+use Rattle.format.specs.Modes.{inlineEverything, nullTerminatedStrings, noDeduplication}
 use Rattle.format.specs.Table.{Wire, Node, Fields}
 use Rattle.format.specs.Read.{fieldCount}
 use Rattle.format.specs.Write.{Fit, fitEntries, fitWire, fitAll}
@@ -21,6 +21,7 @@ use Rattle.write_row.specs.Opens.{fitValue}
 pub record Suits (how : Pass) (modes : ℕ) : Type 0 where
   pub inline : inlineEverything modes ≡ how .inline
   pub numbers : not (noDeduplication modes) ≡ how .numbers
+  pub ends : nullTerminatedStrings modes ≡ how .ends
 
 -- The buffers before and after a step that began at row i with the core at `core`.
 module _ (how : Pass) (table pool rows out w : List ℕ) (core : ℕ) (out′ w′ : List ℕ) (r : Progress) (i : ℕ) where

@@ -43,10 +43,12 @@ fn pass_in(modes: u64, put: bool) -> Pass
 {
     let inline = modes % 2 == 1;
     let numbers = modes / 32 % 2 == 0;
+    let ends = modes / 16 % 2 == 1;
     Pass {
         put,
         inline,
         numbers,
+        ends,
     }
 }
 

@@ -1,6 +1,8 @@
 -- `write_bytes::event::emit_fixed` meets its contract.
+use mathlib.Core.List.{append-nil}
 use native.Mathlib.Omega.{arith}
 use borrow.Author.Needs.{needs}
+use Rattle.format.specs.Read.{ending}
 use Rattle.write_bytes.proofs.Events.{near-done, event-stop, event-value}
 use Rattle.write_bytes.proofs.event.emit_fixed.Statement.{statement}
 use Rattle.write_bytes.proofs.event.emit_fixed.Tie as tie
@@ -35,11 +37,12 @@ same-length-3 : tie.Need-same-length-3
 same-length-3 c = search needs
 
 returns-2 : tie.Need-returns-2
+unfolding ending
 returns-2 c =
     let front = c .before .before .before .before .before .before .before .before .before .before .before .before .front in
     let first = c .before .before .before .before .before .before .before .before .first in
     let part = c .before .before .before .before .part in
-    event-value _ _ _ _ _ _ (front .ensures .0) (first .given .1) (part .ensures)
+    event-value _ _ _ _ _ _ (front .ensures .0) (first .given .1) (rw append-nil at (part .ensures))
 
 pub emit-fixed-spec : {M : Type 1} → statement M
 emit-fixed-spec =

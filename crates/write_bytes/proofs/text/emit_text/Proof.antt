@@ -48,7 +48,7 @@ returns c =
     let pre = c .before .before .before .before .before .before .before .before .before .before .before .before .before .pre in
     let e = signed-is (record { sfits = k .ok }) (k .ensures) in
     let d : Puts _ _ (label (numberLabel _)) _ _ _ = rw e at (put-label .ensures) in
-    row-named (args .put) (args .inline) (args .numbered) (args .key) (args .core) (now (args .pool)) (now (args .work)) (now (args .out)) (record { start = args .start; size = args .size }) _ (choose .ensures .0) (j .given .1) (pre .0) d
+    row-named (args .put) (args .inline) (args .numbered) (args .ended) (args .key) (args .core) (now (args .pool)) (now (args .work)) (now (args .out)) (record { start = args .start; size = args .size }) _ (choose .ensures .0) (j .given .1) (pre .0) d
 
 same-length-3 : tie.Need-same-length-3
 same-length-3 c = search needs
@@ -62,7 +62,7 @@ returns-2 c =
     let choose = c .before .before .before .before .before .before .before .before .before .before .choose in
     let first = c .before .before .before .before .before .before .before .before .first in
     let literal = c .before .before .before .before .literal in
-    row-out (args .put) (args .inline) (args .numbered) (args .key) (args .core) (now (args .pool)) (now (args .work)) (now (args .out)) (record { start = args .start; size = args .size }) _ (choose .ensures .0) (first .given .1) (literal .ensures)
+    row-out (args .put) (args .inline) (args .numbered) (args .ended) (args .key) (args .core) (now (args .pool)) (now (args .work)) (now (args .out)) (record { start = args .start; size = args .size }) _ (choose .ensures .0) (first .given .1) (literal .ensures)
 
 pub emit-text-spec : {M : Type 1} → statement M
 emit-text-spec =

@@ -37,7 +37,7 @@ returns : tie.Need-returns
 returns c =
     let pre = c .before .before .before .before .before .before .before .before .before .before .pre in
     let enum-told = c .enum-told in
-    literal-stop _ _ _ _ _ _ (pre .0) (pre .3) (counted (c .before .before .before .before)) (enum-told .given .1)
+    literal-stop _ _ _ _ _ _ _ (pre .0) (pre .3) (counted (c .before .before .before .before)) (enum-told .given .1)
 
 part-requires : tie.Need-part-requires
 part-requires c κs =
@@ -64,7 +64,7 @@ returns-2 c =
     let front = c .before .before .before .before .before .before .before .before .before .before .front in
     let part = c .before .before .before .before .before .before .part in
     let enum-told2 = c .enum-told2 in
-    literal-full _ _ _ _ _ _ (pre .0) (pre .3) (counted (c .before .before .before .before .before .before .before .before .before .before .before .before .before .before)) (front .given .1) (part .ensures) (enum-told2 .given .1)
+    literal-full _ _ _ _ _ _ _ (pre .0) (pre .3) (counted (c .before .before .before .before .before .before .before .before .before .before .before .before .before .before)) (front .given .1) (part .ensures) (enum-told2 .given .1)
 
 keep-requires : tie.Need-keep-requires
 keep-requires c κs =
@@ -73,7 +73,7 @@ keep-requires c κs =
     let front = c .before .before .before .before .before .before .before .before .before .before .before .before .front in
     let part = c .before .before .before .before .before .before .before .before .part in
     let step = c .before .before .step in
-    (literal-good _ _ (args .numbered) _ _ _ (pre .0) (pre .3) (counted (c .before .before .before .before .before .before .before .before .before .before .before .before .before .before .before .before)) (front .given .1) (part .ensures) (step .given .1), pre .2, pre .4, pre .5)
+    (literal-good _ _ (args .numbered) _ _ _ _ (pre .0) (pre .3) (counted (c .before .before .before .before .before .before .before .before .before .before .before .before .before .before .before .before)) (front .given .1) (part .ensures) (step .given .1), pre .2, pre .4, pre .5)
 
 same-length-4 : tie.Need-same-length-4
 same-length-4 c = search needs
@@ -88,7 +88,7 @@ returns-3 c =
     let part = c .before .before .before .before .before .before .before .before .before .before .before .part in
     let step = c .before .before .before .before .before .step in
     let keep = c .before .before .keep in
-    literal-done _ _ _ _ _ _ (pre .0) (pre .3) (counted (c .before .before .before .before .before .before .before .before .before .before .before .before .before .before .before .before .before .before .before)) (front .given .1) (part .ensures) (step .given .1) (pre .6) (keep .ensures)
+    literal-done _ _ _ _ _ _ _ (pre .0) (pre .3) (counted (c .before .before .before .before .before .before .before .before .before .before .before .before .before .before .before .before .before .before .before)) (front .given .1) (part .ensures) (step .given .1) (pre .6) (keep .ensures)
 
 pub literal-spec : {M : Type 1} → statement M
 literal-spec =

@@ -1,9 +1,11 @@
 -- `write_bytes::value::part` meets its contract.
 use denote.Ref.{now}
+use mathlib.Core.Path.{refl}
 use native.Mathlib.Omega.{arith}
 use borrow.Author.Needs.{needs}
-use Rattle.write_search.specs.Parts.{part-length}
+use Rattle.write_passes.specs.Moves.{ending-most}
 use Rattle.write_bytes.specs.Does.{puts-done}
+use Rattle.write_bytes.proofs.Stores.{ended-length}
 use Rattle.write_bytes.proofs.Values.{place-found, place-within, value-nowhere, value-full, value-done}
 use Rattle.write_bytes.proofs.value.part.Statement.{statement}
 use Rattle.write_bytes.proofs.value.part.Tie as tie
@@ -58,7 +60,7 @@ move-to-requires c κs =
     let put-part = c .before .before .before .before .before .before .put-part in
     let step = c .before .before .step in
     let args = c .before .before .before .before .before .before .before .before .before .before .before .before .before .before .before .before .args in
-    (pre .0, pre .2, omega (arith, place-within _ _ _ _ (place .ensures) (pre .1) (first .given .1), puts-done (put-part .ensures) (step .given .1) .1, part-length (now (args .pool)) _ (pre .3)), place-found _ _ _ _ (place .ensures) (first .given .1))
+    (pre .0, pre .2, omega (arith, place-within _ _ _ _ (place .ensures) (pre .1) (first .given .1), puts-done (put-part .ensures) (step .given .1) .1, ended-length (args .ended) (now (args .pool)) (record { start = args .start; size = args .size }) (pre .3) refl, ending-most (args .ended)), place-found _ _ _ _ (place .ensures) (first .given .1))
 
 same-length-4 : tie.Need-same-length-4
 same-length-4 c = search needs
