@@ -29,12 +29,12 @@ pub fn run() {
     let files: Vec<Vec<u8>> = tables.iter().flatten().map(|(_, t)| file(t)).collect();
     let mut calls = Vec::new();
     calls.extend(pairs.iter().flatten().flat_map(read_calls));
-    for modes in [0, NO_DEDUPLICATION] {
+    for plain in [false, true] {
         let scenes = pairs.iter().flatten();
-        calls.extend(scenes.flat_map(|scene| write_calls(scene, modes)));
+        calls.extend(scenes.flat_map(|scene| write_calls(scene, plain)));
     }
     calls.extend(files.iter().flat_map(|file| check_calls(file)));
-    calls.extend(small.iter().flat_map(|scene| write_calls(scene, 0)));
+    calls.extend(small.iter().flat_map(|scene| write_calls(scene, false)));
     calls.extend(texts.iter().flat_map(|texts| text_calls(texts)));
     let mut times = Times(best(calls).into_iter());
 
@@ -111,11 +111,12 @@ fn read_calls(scene: &Scene) -> [Call<'_>; 3] {
     ]
 }
 
-/// The model bare, with work to zero, and with that and the sheet's search; and the library.
-fn write_calls(scene: &Scene, modes: u64) -> [Call<'_>; 4] {
-    let room = match modes {
-        0 => vec![0; scene.message.len()],
-        _ => vec![0; scene.long],
+/// The model bare, with work to zero, and with that and the sheet's search; and the library. All in the scene's modes,
+/// and in mode 5 too where it is to be plain.
+fn write_calls(scene: &Scene, plain: bool) -> [Call<'_>; 4] {
+    let (modes, room) = match plain {
+        false => (scene.modes, vec![0; scene.message.len()]),
+        true => (scene.modes | NO_DEDUPLICATION, vec![0; scene.long]),
     };
     let (table, rows, pool) = (&scene.table, &scene.rows, &scene.pool);
     let model = move |search: Search, out: &mut [u8]| {

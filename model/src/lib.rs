@@ -39,9 +39,12 @@ pub const MAX_NUMBERED: usize = 4_096;
 pub const INLINE_EVERYTHING: u64 = 1 << 0;
 /// Mode 2: -3 is a null whose error is told elsewhere.
 pub const OUT_OF_BAND_FIELD_ERRORS: u64 = 1 << 2;
+/// Mode 4: a 00 follows each STRING literal in its piece.
+pub const NULL_TERMINATED_STRINGS: u64 = 1 << 4;
 /// Mode 5: no literal has a number.
 pub const NO_DEDUPLICATION: u64 = 1 << 5;
-pub const MODES: u64 = INLINE_EVERYTHING | OUT_OF_BAND_FIELD_ERRORS | NO_DEDUPLICATION;
+pub const MODES: u64 =
+    INLINE_EVERYTHING | OUT_OF_BAND_FIELD_ERRORS | NULL_TERMINATED_STRINGS | NO_DEDUPLICATION;
 
 /// What a call answers: a number and a second number.
 #[derive(Clone, Copy, Debug, PartialEq, Eq, Hash, PartialOrd, Ord)]

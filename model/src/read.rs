@@ -3,7 +3,7 @@
 use crate::table::{self, WireType};
 use crate::{
     label, refuse, rows, utf8, Answer, INLINE_EVERYTHING, KEYS, MAX_BYTES, MAX_NUMBERED, MAX_ROWS,
-    MODES, NO_DEDUPLICATION, OUT_OF_BAND_FIELD_ERRORS, WORK_WORDS,
+    MODES, NO_DEDUPLICATION, NULL_TERMINATED_STRINGS, OUT_OF_BAND_FIELD_ERRORS, WORK_WORDS,
 };
 
 /// The call. `work` is the count of words lent; what the model needs it keeps itself.
@@ -190,9 +190,16 @@ impl Reader<'_> {
 
     fn literal(&mut self, this: &WireType, len: u64) -> Result<(), Answer> {
         let start = self.take(this.key, len)?;
-        let text = &self.message[start..start + len as usize];
-        if this.kind == table::STRING && !utf8::valid(text) {
-            return refuse(28, 0);
+        if this.kind == table::STRING {
+            if self.modes & NULL_TERMINATED_STRINGS != 0 {
+                let end = self.take(this.key, 1)?;
+                if self.message[end] != 0 {
+                    return refuse(35, 0);
+                }
+            }
+            if !utf8::valid(&self.message[start..][..len as usize]) {
+                return refuse(28, 0);
+            }
         }
         if this.deduplicate && self.modes & NO_DEDUPLICATION == 0 {
             if self.numbered == MAX_NUMBERED {

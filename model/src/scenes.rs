@@ -5,14 +5,15 @@ use crate::gen::fixed::{array_chain, table_all, table_e, table_s};
 use crate::night::Night;
 use crate::rng::Rng;
 use crate::table::{self, file, Node};
-use crate::{rows, write, MAX_BYTES, NO_DEDUPLICATION, WORK_WORDS};
+use crate::{rows, write, MAX_BYTES, NO_DEDUPLICATION, NULL_TERMINATED_STRINGS, WORK_WORDS};
 
 /// Bytes of a long text, or one less where the last letter does not fit.
 const LONG: usize = 60_000;
 
-/// A tree with its table and its message; and how long the message is in mode 5.
+/// A tree with its table and its message in these modes; and how long the message is in mode 5 too.
 pub struct Scene {
     pub name: String,
+    pub modes: u64,
     pub table: Vec<u8>,
     pub rows: Vec<u64>,
     pub pool: Vec<u8>,
@@ -22,9 +23,13 @@ pub struct Scene {
 
 impl Scene {
     fn new(name: &str, nodes: &[Node], rows: Vec<u64>, pool: Vec<u8>) -> Scene {
+        Scene::in_modes(0, name, nodes, rows, pool)
+    }
+
+    fn in_modes(modes: u64, name: &str, nodes: &[Node], rows: Vec<u64>, pool: Vec<u8>) -> Scene {
         let table = file(nodes);
         let mut message = vec![0; MAX_BYTES];
-        let [long, short] = [NO_DEDUPLICATION, 0].map(|modes| {
+        let [long, short] = [modes | NO_DEDUPLICATION, modes].map(|modes| {
             let modes = modes as u128;
             let answer = write::write(&table, modes, &rows, &pool, &mut message, WORK_WORDS);
             assert!(answer.is_success(), "{name}: {answer}");
@@ -33,6 +38,7 @@ impl Scene {
         message.truncate(short);
         Scene {
             name: name.to_string(),
+            modes,
             table,
             rows,
             pool,
@@ -48,7 +54,8 @@ impl Scene {
 
 pub fn pairs() -> Vec<[Scene; 2]> {
     vec![
-        [600, 1_200].map(night),
+        [600, 1_200].map(|jobs| night(jobs, 0)),
+        [600, 1_200].map(|jobs| night(jobs, NULL_TERMINATED_STRINGS)),
         [2_048, 4_096].map(|literals| texts(literals, 0)),
         [2_048, 4_096].map(|literals| texts(literals, literals * 4_000 / 4_096)),
         [2_048, 4_096].map(scattered),
@@ -136,10 +143,13 @@ fn wide(nodes: u16) -> Vec<Node> {
     list
 }
 
-fn night(jobs: usize) -> Scene {
+fn night(jobs: usize, modes: u64) -> Scene {
     let (list, pool) = Night::new(jobs).rows();
-    let name = format!("a night of {} jobs", commas(jobs));
-    Scene::new(&name, &Night::nodes(), list, pool)
+    let mut name = format!("a night of {} jobs", commas(jobs));
+    if modes == NULL_TERMINATED_STRINGS {
+        name += ", mode 4";
+    }
+    Scene::in_modes(modes, &name, &Night::nodes(), list, pool)
 }
 
 /// Different texts that have much in common first, then references all over them.

@@ -7,10 +7,11 @@ use crate::compare::Comparison;
 use crate::gen::fixed::{
     all_modes, base_trees, table_e, table_omittable_record, table_r, table_s, types, HEADERS,
 };
+use crate::gen::texts::table_bytes;
 use crate::table::{self, file, Node, WireType};
 use crate::{
     ffi, label, read, rows, spell, write, Answer, INLINE_EVERYTHING, MAX_BYTES, MAX_ROWS,
-    NO_DEDUPLICATION, WORK_WORDS,
+    NO_DEDUPLICATION, NULL_TERMINATED_STRINGS, WORK_WORDS,
 };
 
 /// Runs all searches, prints what they saw; true when nothing failed. Where the library is linked, it writes each tree
@@ -179,8 +180,9 @@ impl Search {
         let omittable_nullable = [n(table::NULLABLE, table::OMITTABLE, 0)];
         let record = |fields| [n(table::RECORD, 0, fields)];
         let integer = [n(table::BLOCK, 1, 2), n(table::VARINT, 0, 0)];
-        let tables: [(Vec<Node>, &[&str], usize); 9] = [
+        let tables: [(Vec<Node>, &[&str], usize); 10] = [
             (table_s(), &["", "a", "b", "abc"], 5),
+            (table_s(), &["", "\0", "a", "a\0"], 3),
             (
                 [&array[..], &nullable, &bytes(2, 0)].concat(),
                 &["", "a", "abcd"],
@@ -294,22 +296,39 @@ impl Search {
         for (field, row) in (0..).zip(&mut record[1..]) {
             row[3] = text_field(field);
         }
-        for modes in [0, 1, NO_DEDUPLICATION] {
-            self.tree(&table_s(), &array.concat(), &pool, modes);
-            self.tree(&text_record(count), &record.concat(), &pool, modes);
+        let mut bytes = array.clone();
+        for row in &mut bytes[1..] {
+            row[0] = rows::BYTES;
+        }
+        for modes in [0, INLINE_EVERYTHING, NO_DEDUPLICATION] {
+            for modes in [modes, modes | NULL_TERMINATED_STRINGS] {
+                self.tree(&table_s(), &array.concat(), &pool, modes);
+                self.tree(&text_record(count), &record.concat(), &pool, modes);
+            }
+        }
+        // BYTES take as much in mode 4 as without it.
+        for modes in [0, NULL_TERMINATED_STRINGS] {
+            self.tree(&table_bytes(), &bytes.concat(), &pool, modes);
         }
     }
 
     /// Equal empty texts, by a sum: the array's label and one byte for each, be it
-    /// a literal or a number; an empty block; the core's own label.
+    /// a literal or a number; in mode 4 a 00 for each literal, of which there is one
+    /// unless mode 5 is set; the labels of the block and of the core.
     fn only_equal(&mut self, list: &[u64], entries: usize) {
         let nodes = table_s();
         let mut out = vec![0; MAX_BYTES];
         for modes in all_modes() {
+            let zeros = match modes & NULL_TERMINATED_STRINGS {
+                0 => 0,
+                _ if modes & NO_DEDUPLICATION != 0 => entries,
+                _ => 1,
+            };
             let core = label::size(entries as i64) + entries;
+            let labels = label::size(zeros as i64) + label::size(core as i64);
             let wanted = match modes & INLINE_EVERYTHING {
-                0 => 1 + 1 + label::size(core as i64) + core,
-                _ => 1 + core,
+                0 => 1 + labels + zeros + core,
+                _ => 1 + zeros + core,
             };
             let answer = self.write(&file(&nodes), modes, list, &[], &mut out);
             self.trees += 1;
@@ -328,31 +347,43 @@ impl Search {
         }
     }
 
-    /// 63 one-byte texts in a record, the last repeats the 62nd: 130 against 129.
+    /// 63 one-byte texts in a record, the last repeats the 62nd: 130 named, 129 written out. In mode 4 the text takes
+    /// three bytes written out, and both are as long; an empty one takes two there, and again it is longer named.
     pub fn sheet_example(&mut self) {
+        let zero = NULL_TERMINATED_STRINGS;
+        self.last_again("63 texts of one byte", 1, 0, [130, 129]);
+        self.last_again("63 texts of one byte, mode 4", 1, zero, [193, 193]);
+        self.last_again("the last two empty", 0, 0, [129, 127]);
+        self.last_again("the last two empty, mode 4", 0, zero, [192, 191]);
+    }
+
+    /// 63 texts in a record; the last repeats the 62nd, which has no byte or one like the others.
+    fn last_again(&mut self, name: &str, len: u64, modes: u64, [named, written_out]: [usize; 2]) {
         let nodes = text_record(63);
         let mut list = vec![rows::RECORD, 63, 0, 0];
         for i in 0..63 {
-            let start = if i == 62 { 61 } else { i };
-            list.extend([rows::STRING, start, 1, text_field(i)]);
+            let [start, len] = if i < 61 { [i, 1] } else { [61, len] };
+            list.extend([rows::STRING, start, len, text_field(i)]);
         }
         let pool: Vec<u8> = (0x20..0x20 + 63).collect();
-        let mut sizes: Vec<usize> = spell::all(&types(&nodes), &list, &pool, 0)
+        let sizes: Vec<usize> = spell::all(&types(&nodes), &list, &pool, modes)
             .iter()
             .map(Vec::len)
             .collect();
-        sizes.sort_unstable();
-        self.expect(sizes == [129, 130], "129 and 130", &nodes, &list, 0);
-        let premise = spell::premise(&types(&nodes), &list, &pool, 0, false);
-        self.expect(!premise, "stands outside the premise", &nodes, &list, 0);
-        let mut out = vec![0; 130];
-        let answer = self.write(&file(&nodes), 0, &list, &pool, &mut out);
-        let named = answer == Answer::success(130);
-        self.expect(named, "the writer names it", &nodes, &list, 0);
-        let answer = self.write(&file(&nodes), 0, &list, &pool, &mut out[..129]);
+        let as_said = sizes == [written_out, named];
+        self.expect(as_said, "the last is named or not", &nodes, &list, modes);
+        let premise = spell::premise(&types(&nodes), &list, &pool, modes, false);
+        let as_said = premise == (named <= written_out);
+        self.expect(as_said, "the premise asks for it", &nodes, &list, modes);
+        let mut out = vec![0; named];
+        let answer = self.write(&file(&nodes), modes, &list, &pool, &mut out);
+        let names = answer == Answer::success(named);
+        self.expect(names, "the writer names it", &nodes, &list, modes);
+        out.pop();
+        let answer = self.write(&file(&nodes), modes, &list, &pool, &mut out);
         let refused = answer == Answer::refused(43, 0);
-        self.expect(refused, "129 bytes are too few for it", &nodes, &list, 0);
-        println!("63 texts of one byte: {sizes:?}, the writer's 130");
+        self.expect(refused, "one byte less is too few", &nodes, &list, modes);
+        println!("{name}: {written_out} written out, {named} named, as the writer does");
     }
 
     /// Every short message over a few bytes: one that reads is a spelling of its

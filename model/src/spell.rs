@@ -4,7 +4,10 @@
 //! -1 or -3 for a null. Everything else in a message is settled by its tree.
 
 use crate::table::{self, WireType};
-use crate::{label, rows, INLINE_EVERYTHING, KEYS, NO_DEDUPLICATION, OUT_OF_BAND_FIELD_ERRORS};
+use crate::{
+    label, rows, INLINE_EVERYTHING, KEYS, NO_DEDUPLICATION, NULL_TERMINATED_STRINGS,
+    OUT_OF_BAND_FIELD_ERRORS,
+};
 
 /// A message before it is put together.
 #[derive(Clone, Default)]
@@ -14,6 +17,9 @@ pub struct Pieces {
     pub core: Vec<u8>,
     /// Where the labels begin in the core.
     pub labels: Vec<usize>,
+    /// Where the bytes of each literal end: its block, or none for the core, and the place there. In mode 4 a text has
+    /// its 00 there.
+    pub ends: Vec<(Option<usize>, usize)>,
     /// Numbered literals of each key, as places in the pool.
     pub literals: Vec<Vec<(usize, usize)>>,
 }
@@ -135,6 +141,12 @@ impl Speller<'_> {
         }
         self.label(len as i64);
         self.copy(this.key, start, len);
+        let zeros = zeros(this, self.modes);
+        let home = self.home(this.key);
+        let end = home.len();
+        home.resize(end + zeros, 0);
+        let block = self.blocks[this.key as usize];
+        self.pieces.ends.push((block, end));
     }
 
     fn label(&mut self, n: i64) {
@@ -157,6 +169,11 @@ impl Speller<'_> {
         });
         &mut self.pieces.blocks[block]
     }
+}
+
+/// How many 00 follow a literal of this type: one, if it is a text in mode 4.
+pub fn zeros(this: &WireType, modes: u64) -> usize {
+    usize::from(this.kind == table::STRING && modes & NULL_TERMINATED_STRINGS != 0)
 }
 
 /// Every spelling of a small tree, by counting through all choices.
@@ -188,14 +205,18 @@ pub fn all(types: &[WireType], rows: &[u64], pool: &[u8], modes: u64) -> Vec<Vec
 }
 
 /// Demand 3's premise: under a deduplicating key, each value whose literal takes
-/// fewer than three bytes, label and bytes, is among its key's first 61 different
-/// ones. With `repeated` only the values that come again are asked.
+/// fewer than three bytes, label, bytes and the 00 of mode 4, is among its key's
+/// first 61 different ones. With `repeated` only the values that come again are asked.
 pub fn premise(types: &[WireType], rows: &[u64], pool: &[u8], modes: u64, repeated: bool) -> bool {
     if modes & NO_DEDUPLICATION != 0 {
         return true;
     }
     let pieces = spell(types, rows, pool, modes, &mut |_| 0);
-    pieces.literals.iter().all(|places| {
+    (0..).zip(&pieces.literals).all(|(key, places)| {
+        let block = types
+            .iter()
+            .find(|this| this.deduplicate && this.key == key);
+        let zeros = block.map_or(0, |this| zeros(this, modes));
         let values: Vec<&[u8]> = places.iter().map(|&(a, b)| &pool[a..a + b]).collect();
         let mut different: Vec<&[u8]> = Vec::new();
         for value in &values {
@@ -204,7 +225,7 @@ pub fn premise(types: &[WireType], rows: &[u64], pool: &[u8], modes: u64, repeat
             }
         }
         different.iter().skip(61).all(|value| {
-            let short = label::size(value.len() as i64) + value.len() < 3;
+            let short = label::size(value.len() as i64) + value.len() + zeros < 3;
             let again = values.iter().filter(|v| *v == value).count() > 1;
             !(short && (again || !repeated))
         })

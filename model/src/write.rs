@@ -7,7 +7,7 @@ use std::hash::{BuildHasherDefault, Hasher};
 use crate::table::{self, WireType};
 use crate::{
     label, refuse, rows, utf8, Answer, INLINE_EVERYTHING, KEYS, MAX_BYTES, MAX_NUMBERED, MAX_ROWS,
-    MODES, NO_DEDUPLICATION, WORK_WORDS,
+    MODES, NO_DEDUPLICATION, NULL_TERMINATED_STRINGS, WORK_WORDS,
 };
 
 /// How the first equal literal of a key is found; the message is the same.
@@ -233,6 +233,9 @@ impl<'a> Writer<'a> {
         }
         self.label(value.len() as i64);
         self.put(this.key, value);
+        if this.kind == table::STRING && self.modes & NULL_TERMINATED_STRINGS != 0 {
+            self.put(this.key, &[0]);
+        }
     }
 
     /// Where the key's values go.

@@ -7,16 +7,20 @@ use model::gen::fixed::{array_chain, table_e, table_r, table_s, BEYOND};
 use model::rows::{look, part};
 use model::{label, read, table, write, WORK_WORDS};
 
-/// Texts in an array: their label and bytes, put into pieces or inline.
+/// Texts in an array: their label and bytes, put into pieces or inline, in mode 4 with their 00.
 fn texts(texts: &[&[u8]], modes: u8) -> Vec<u8> {
     let (mut core, mut block) = (Vec::new(), Vec::<u8>::new());
     label::put(texts.len() as i64, &mut core);
     for text in texts {
         label::put(text.len() as i64, &mut core);
-        if modes & 1 == 0 {
-            block.extend(*text);
+        let piece = if modes & 1 == 0 {
+            &mut block
         } else {
-            core.extend(*text);
+            &mut core
+        };
+        piece.extend(*text);
+        if modes & 16 != 0 {
+            piece.push(0);
         }
     }
     let mut message = vec![modes << 1];
@@ -182,12 +186,12 @@ fn one_key_has_one_use() {
 #[test]
 fn message_length_and_header() {
     assert_eq!(answer(&table_e(), b""), no(20));
-    for modes in [0, 1] {
-        // The shell of one long text: 9 bytes, or 5 inline.
-        let shell = if modes == 0 { 9 } else { 5 };
+    // The shell of one long text: 9 bytes, or 5 inline, and the 00 of mode 4.
+    for (modes, shell) in [(0, 9), (1, 5), (16, 10), (17, 6)] {
         let longest = texts(&[&vec![b'x'; 65_536 - shell]], modes);
         assert_eq!(longest.len(), 65_536);
-        let wanted = [6, if modes == 0 { 4 } else { 5 }, 65_536 - shell as u64];
+        let start = if modes & 1 == 0 { 4 } else { 5 };
+        let wanted = [6, start, 65_536 - shell as u64];
         assert_eq!(rows_of(&table_s(), &longest).1[1], wanted);
         let longer = texts(&[&vec![b'x'; 65_537 - shell]], modes);
         assert_eq!(answer(&table_s(), &longer), no(20));
@@ -198,8 +202,8 @@ fn message_length_and_header() {
     let empty_record = [n(7, 0, 0)];
     for header in 0..=255u8 {
         let wanted = match header {
-            0x00 | 0x08 | 0x40 | 0x48 => no(22),
-            0x02 | 0x0a | 0x42 | 0x4a => ok(1),
+            0x00 | 0x08 | 0x20 | 0x28 | 0x40 | 0x48 | 0x60 | 0x68 => no(22),
+            0x02 | 0x0a | 0x22 | 0x2a | 0x42 | 0x4a | 0x62 | 0x6a => ok(1),
             _ => no(21),
         };
         assert_eq!(answer(&empty_record, &[header]), wanted, "{header:02x}");
@@ -414,7 +418,7 @@ fn modes_of_the_reader() {
 fn modes_of_the_writer() {
     let rows = [[10, 0, 0]];
     for modes in 0..128u128 {
-        let allowed = modes & !0b10_0101 == 0;
+        let allowed = modes & !0b11_0101 == 0;
         let wanted = match (allowed, modes & 1) {
             (true, 0) => ok(3),
             (true, _) => ok(2),
@@ -561,7 +565,7 @@ fn room_for_the_message() {
         }
     }
     // 65,536 bytes and no more, however many are lent.
-    for (modes, shell) in [(0, 9), (1, 5)] {
+    for (modes, shell) in [(0, 9), (1, 5), (16, 10), (17, 6)] {
         let pool = vec![b'x'; 65_536];
         for (size, wanted) in [(65_536, ok(65_536)), (65_537, no(43))] {
             let rows = [[10, 1, 0], [6, 0, size - shell]];

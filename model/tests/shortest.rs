@@ -33,7 +33,7 @@ fn the_writer_is_shortest_under_the_premise() {
         }
     }
     assert_eq!(search.failures, 0);
-    assert_eq!(search.trees, 7 * 8);
+    assert_eq!(search.trees, 7 * 16);
     assert_eq!(search.shortest, search.trees);
     assert!(search.no_room > search.trees);
 }
@@ -71,7 +71,7 @@ fn any_spelling_of_a_random_tree_reads_as_it_and_fits_again() {
         let nodes = trees::nodes(&mut rng);
         let types = types(&nodes);
         let tree = trees::tree(&mut rng, &types, 60);
-        let modes = rng.pick(&[0, 1, 4, 5, 32, 33, 36, 37]);
+        let modes = rng.pick(&all_modes().collect::<Vec<u64>>());
         let pieces = spell::spell(&types, &tree.rows, &tree.pool, modes, &mut |ways| {
             rng.below(ways)
         });

@@ -1,5 +1,6 @@
 //! Damage to what was sound: bytes, nodes, rows, and messages piece by piece.
 
+use super::fixed::HEADERS;
 use super::nodes::EDGE_NODES;
 use super::trees::EDGE_WORDS;
 use crate::label;
@@ -161,7 +162,7 @@ fn node(rng: &mut Rng, rows: &mut [u64], row: usize) {
 /// come of these; faults of the pieces come of damaged bytes.
 pub fn pieces(rng: &mut Rng, pieces: &mut Pieces) {
     let labels = pieces.labels.len();
-    match rng.below(10) {
+    match rng.below(12) {
         0..=3 if labels > 0 => {
             let at = pieces.labels[rng.below(labels)];
             if at >= pieces.core.len() {
@@ -193,6 +194,32 @@ pub fn pieces(rng: &mut Rng, pieces: &mut Pieces) {
             let other = rng.below(pieces.blocks.len());
             pieces.blocks.swap(0, other);
         }
-        _ => pieces.header = rng.pick(&[0, 2, 8, 10, 64, 66, 72, 74, 1, 4, 16, 32, 128]),
+        10 | 11 if !pieces.ends.is_empty() => end(rng, pieces),
+        _ if rng.one_in(3) => pieces.header ^= 1 << rng.below(8),
+        _ => pieces.header = rng.pick(&HEADERS),
+    }
+}
+
+/// Behind a literal another byte than its 00, none, or one 00 more; now and then its text is wrong as well.
+fn end(rng: &mut Rng, pieces: &mut Pieces) {
+    let (block, at) = rng.pick(&pieces.ends);
+    let piece = match block {
+        Some(block) => pieces.blocks.get_mut(block),
+        None => Some(&mut pieces.core),
+    };
+    // It may have been damaged before.
+    let Some(piece) = piece.filter(|piece| at <= piece.len()) else {
+        return;
+    };
+    if at > 0 && rng.one_in(4) {
+        piece[at - 1] = rng.pick(&[0x80, 0xc3, 0xff]);
+    }
+    match rng.below(6) {
+        0 | 1 if at < piece.len() => piece[at] = rng.pick(&[1, b'0', 0x80, 0xff]),
+        2 | 3 => piece.truncate(at),
+        4 if at < piece.len() => {
+            piece.remove(at);
+        }
+        _ => piece.insert(at, 0),
     }
 }

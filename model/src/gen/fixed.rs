@@ -3,11 +3,14 @@
 
 use super::damage::{EDGE_LABELS, NO_LABELS};
 use super::trees::EDGE_WORDS;
-use super::{nodes, texts};
+use super::{ends, nodes, texts};
 use crate::case::Case;
 use crate::small::{text_field, text_record};
 use crate::table::{self, file, Node, WireType};
-use crate::{label, rows, spell, INLINE_EVERYTHING, MAX_NODES, MAX_PATH, MODES, WORK_WORDS};
+use crate::{
+    label, rows, spell, INLINE_EVERYTHING, MAX_NODES, MAX_PATH, MODES, NULL_TERMINATED_STRINGS,
+    WORK_WORDS,
+};
 
 /// Rows enough for every message.
 pub const ROWS: usize = rows::WORDS * 8_192;
@@ -22,8 +25,10 @@ pub const BEYOND: [u64; 6] = [
 ];
 /// Output enough for every message.
 pub const OUT: usize = 65_536;
-/// The eight headers that are read.
-pub const HEADERS: [u8; 8] = [0x00, 0x02, 0x08, 0x0a, 0x40, 0x42, 0x48, 0x4a];
+/// The sixteen headers that are read.
+pub const HEADERS: [u8; 16] = [
+    0x00, 0x02, 0x08, 0x0a, 0x20, 0x22, 0x28, 0x2a, 0x40, 0x42, 0x48, 0x4a, 0x60, 0x62, 0x68, 0x6a,
+];
 
 fn n(kind: u8, flags: u8, argument: u16) -> Node {
     Node::new(kind, flags, argument)
@@ -166,6 +171,13 @@ pub fn cells() -> Vec<Cell> {
     cells
 }
 
+/// A text as it stands in its piece: in mode 4 a 00 follows.
+pub fn end_text(text: &mut Vec<u8>, modes: u64) {
+    if modes & NULL_TERMINATED_STRINGS != 0 {
+        text.push(0);
+    }
+}
+
 pub fn all_modes() -> impl Iterator<Item = u64> {
     (0..64).filter(|modes| modes & !MODES == 0)
 }
@@ -200,15 +212,25 @@ impl Cell {
     /// The text, the label, and after it what a value of that label would need.
     pub fn message(&self) -> Vec<u8> {
         let inline = self.modes & INLINE_EVERYTHING != 0;
-        let mut core = vec![4];
-        let mut blocks = vec![b"xy".to_vec()];
-        if inline {
-            core.extend(b"xy");
+        let mut first = b"xy".to_vec();
+        if self.kind != table::BYTES {
+            end_text(&mut first, self.modes);
         }
+        let mut core = vec![4];
+        if inline {
+            core.extend(&first);
+        }
+        let mut blocks = vec![first];
         label::put(self.label, &mut core);
         let few = usize::try_from(self.label).unwrap_or(0).min(64);
         let (own_block, value) = match self.kind {
-            table::STRING | table::BYTES => (false, vec![b'z'; few]),
+            table::STRING | table::BYTES => {
+                let mut value = vec![b'z'; few];
+                if self.kind == table::STRING && self.label >= 0 {
+                    end_text(&mut value, self.modes);
+                }
+                (false, value)
+            }
             table::VARINT => (true, vec![0x09]),
             table::FLOAT64 => (true, vec![0x3f; 8]),
             table::FIXED => (true, vec![0x11, 0x22, 0x33]),
@@ -253,6 +275,7 @@ pub fn cases(kind: char) -> Vec<Case> {
     }
     cases.extend(texts::cases(kind));
     cases.extend(nodes::cases(kind));
+    cases.extend(ends::cases(kind));
     cases
 }
 

@@ -1,12 +1,13 @@
 //! Both sides of every limit that only a large case can reach, for the fixed list has the small ones; and each refusal of
 //! a table by reader and writer.
 
-use super::assemble;
 use super::fixed::{array_chain, read, table_e, table_s, two_texts, OUT, ROWS};
+use super::{assemble, shell, texts};
 use crate::case::Case;
 use crate::table::{self, file, Node};
 use crate::{
-    label, rows, INLINE_EVERYTHING, MAX_BYTES, MAX_NUMBERED, MAX_ROWS, NO_DEDUPLICATION, WORK_WORDS,
+    label, rows, INLINE_EVERYTHING, MAX_BYTES, MAX_NUMBERED, MAX_ROWS, NO_DEDUPLICATION,
+    NULL_TERMINATED_STRINGS, WORK_WORDS,
 };
 
 pub fn cases() -> Vec<Case> {
@@ -32,13 +33,7 @@ fn labelled(count: usize) -> Vec<u8> {
 
 /// A message for table S: texts all alike.
 fn alike(text: &[u8], count: usize, modes: u64) -> Vec<u8> {
-    let mut core = labelled(count);
-    let mut one = labelled(text.len());
-    if modes & INLINE_EVERYTHING != 0 {
-        one.extend(text);
-    }
-    core.extend(one.repeat(count));
-    assemble(modes, vec![text.repeat(count)], core)
+    texts::message(&vec![text; count], modes)
 }
 
 fn lent(case: Case, lent: usize) -> Case {
@@ -61,11 +56,12 @@ fn lent(case: Case, lent: usize) -> Case {
 /// 20: 65,536 bytes and one more, in one text and in many empty blocks.
 fn longest_messages(cases: &mut Vec<Case>) {
     for size in [MAX_BYTES, MAX_BYTES + 1] {
-        // What stands around the text, with pieces and inline.
-        for (modes, shell) in [(0, 9), (INLINE_EVERYTHING, 5)] {
-            let message = alike(&vec![b'x'; size - shell], 1, modes);
-            assert_eq!(message.len(), size);
-            cases.push(read(&table_s(), &message));
+        for inline in [0, INLINE_EVERYTHING] {
+            for modes in [inline, inline | NULL_TERMINATED_STRINGS] {
+                let message = alike(&vec![b'x'; size - shell(modes)], 1, modes);
+                assert_eq!(message.len(), size);
+                cases.push(read(&table_s(), &message));
+            }
         }
         cases.push(read(&[Node::new(table::RECORD, 0, 0)], &vec![0; size]));
     }
@@ -132,21 +128,26 @@ fn one_byte_numbers(cases: &mut Vec<Case>) {
             let mut list = vec![[rows::ARRAY, literals as u64 + 2, 0, 0]];
             list.extend((0..literals - 1).map(|i| text(i, 2)));
             list.extend([last, last, text(0, 2)]);
-            let pool = (0..literals as u8).flat_map(|i| [i, b'x']).collect();
-            cases.push(Case::Write {
-                work: WORK_WORDS,
-                out: 300,
-                modes: 0,
-                table: file(&table_s()),
-                rows: list.concat(),
-                pool,
-            });
+            let pool: Vec<u8> = (0..literals as u8).flat_map(|i| [i, b'x']).collect();
+            for modes in [0, NULL_TERMINATED_STRINGS] {
+                cases.push(Case::Write {
+                    work: WORK_WORDS,
+                    out: 300,
+                    modes: modes as u128,
+                    table: file(&table_s()),
+                    rows: list.concat(),
+                    pool: pool.clone(),
+                });
+            }
         }
         for number in literals - 1..=literals {
             let mut core = labelled(literals + 1);
             core.extend(vec![2; literals]);
             label::put(-4 - number as i64, &mut core);
-            let block = (0..literals as u8).collect();
+            let block: Vec<u8> = (0..literals as u8).collect();
+            let ended = block.iter().flat_map(|&byte| [byte, 0]).collect();
+            let message = assemble(NULL_TERMINATED_STRINGS, vec![ended], core.clone());
+            cases.push(read(&table_s(), &message));
             cases.push(read(&table_s(), &assemble(0, vec![block], core)));
         }
     }
@@ -209,14 +210,15 @@ fn all_keys(cases: &mut Vec<Case>) {
 /// 41 and 43 at their limits.
 fn longest_outputs(cases: &mut Vec<Case>) {
     let text = |start: usize, len: usize| [rows::STRING, start as u64, len as u64, 1];
-    let write = |nodes: &[Node], out, rows: Vec<u64>, pool: Vec<u8>| Case::Write {
+    let write_in = |modes: u64, nodes: &[Node], out, rows: Vec<u64>, pool: Vec<u8>| Case::Write {
         work: WORK_WORDS,
         out,
-        modes: 0,
+        modes: modes as u128,
         table: file(nodes),
         rows,
         pool,
     };
+    let write = |nodes: &[Node], out, rows, pool| write_in(0, nodes, out, rows, pool);
     for entries in [MAX_ROWS - 1, MAX_ROWS] {
         let mut list = vec![rows::ARRAY, entries as u64, 0, 0];
         list.extend([rows::RECORD, 0, 0, 1].repeat(entries));
@@ -226,10 +228,14 @@ fn longest_outputs(cases: &mut Vec<Case>) {
         let list = [[rows::ARRAY, 1, 0, 0], text(0, 1)].concat();
         cases.push(write(&table_s(), OUT, list, vec![b'p'; pool]));
     }
-    for size in [MAX_BYTES - 9, MAX_BYTES - 8] {
-        for out in [OUT - 1, OUT, OUT + 1] {
-            let list = [[rows::ARRAY, 1, 0, 0], text(0, size)].concat();
-            cases.push(write(&table_s(), out, list, vec![b'p'; size]));
+    for modes in [0, NULL_TERMINATED_STRINGS, NULL_TERMINATED_STRINGS | 1] {
+        let most = MAX_BYTES - shell(modes);
+        for size in [most, most + 1] {
+            for out in [OUT - 1, OUT, OUT + 1] {
+                let list = [[rows::ARRAY, 1, 0, 0], text(0, size)].concat();
+                let pool = vec![b'p'; size];
+                cases.push(write_in(modes, &table_s(), out, list, pool));
+            }
         }
     }
 }

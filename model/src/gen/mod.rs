@@ -1,6 +1,7 @@
 //! The case generator: sound cases, damaged ones, and both sides of every limit.
 
 pub mod damage;
+pub mod ends;
 pub mod fixed;
 pub mod limits;
 pub mod nodes;
@@ -12,7 +13,10 @@ use crate::label;
 use crate::rng::Rng;
 use crate::spell::{self, Pieces};
 use crate::table::{self, file, Node};
-use crate::{rows, MAX_BYTES, MAX_NODES, MAX_NUMBERED, MAX_ROWS, MODES, WORK_WORDS};
+use crate::{
+    rows, INLINE_EVERYTHING, MAX_BYTES, MAX_NODES, MAX_NUMBERED, MAX_ROWS, MODES,
+    NULL_TERMINATED_STRINGS, WORK_WORDS,
+};
 use fixed::{OUT, ROWS};
 
 pub const KINDS: &str = "TRWLP";
@@ -168,7 +172,7 @@ fn sound_nodes(rng: &mut Rng) -> Vec<Node> {
 
 fn modes(rng: &mut Rng) -> u64 {
     let mut modes = 0;
-    for mode in [0, 2, 5] {
+    for mode in [0, 2, 4, 5] {
         if rng.one_in(3) {
             modes |= 1 << mode;
         }
@@ -326,6 +330,15 @@ pub fn assemble(modes: u64, blocks: Vec<Vec<u8>>, core: Vec<u8>) -> Vec<u8> {
     .message()
 }
 
+/// What stands around the one text of a message that is about as long as can be, its 00 in mode 4 among it.
+pub fn shell(modes: u64) -> usize {
+    let zero = usize::from(modes & NULL_TERMINATED_STRINGS != 0);
+    match modes & INLINE_EVERYTHING {
+        0 => 1 + 3 + 1 + 1 + 3 + zero,
+        _ => 1 + 1 + 3 + zero,
+    }
+}
+
 /// A number of a limit's neighbourhood.
 fn near(rng: &mut Rng, limit: usize) -> usize {
     limit - 1 + rng.below(3)
@@ -351,11 +364,9 @@ fn big_read(rng: &mut Rng) -> Case {
                 let text = format!("{i:x}");
                 let text = &text.as_bytes()[..rng.below(text.len() + 1)];
                 label::put(text.len() as i64, &mut core);
-                if inline {
-                    core.extend(text);
-                } else {
-                    block.extend(text);
-                }
+                let piece = if inline { &mut core } else { &mut block };
+                piece.extend(text);
+                fixed::end_text(piece, any_modes);
             }
             for _ in 0..references {
                 label::put(-4 - rng.below(literals) as i64, &mut core);
@@ -365,14 +376,8 @@ fn big_read(rng: &mut Rng) -> Case {
         // The longest message, and one byte more.
         3 => {
             let size = near(rng, MAX_BYTES);
-            let shell = if inline { 1 + 1 + 3 } else { 1 + 3 + 1 + 1 + 3 };
-            let text = vec![b't'; size - shell];
-            let mut core = vec![2];
-            label::put(text.len() as i64, &mut core);
-            if inline {
-                core.extend(&text);
-            }
-            (fixed::table_s(), assemble(any_modes, vec![text], core))
+            let text = vec![b't'; size - shell(any_modes)];
+            (fixed::table_s(), texts::message(&[&text], any_modes))
         }
         // Blocks that nobody asks for, as many as there can be.
         4 => {
@@ -435,7 +440,6 @@ fn wide_table(rng: &mut Rng) -> Vec<Node> {
 
 fn big_write(rng: &mut Rng) -> Case {
     let any_modes = modes(rng);
-    let inline = any_modes & 1 != 0;
     let text = |start: usize, len: usize| [rows::STRING, start as u64, len as u64, 1];
     let (nodes, rows, pool) = match rng.below(6) {
         // Rows up to the limit and past it.
@@ -460,7 +464,7 @@ fn big_write(rng: &mut Rng) -> Case {
         // The longest message and pool, and one byte more.
         3 => {
             let size = near(rng, MAX_BYTES);
-            let shell = if inline { 5 } else { 9 };
+            let shell = shell(any_modes);
             let extra = rng.pick(&[0, shell, shell + 1]);
             let pool = vec![b'p'; size - shell + extra];
             let rows = [[rows::ARRAY, 1, 0, 0], text(0, size - shell)].concat();

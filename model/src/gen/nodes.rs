@@ -7,7 +7,7 @@ use super::fixed::{
 use crate::case::Case;
 use crate::rows::{self, Row, WORDS};
 use crate::table::{self, file, wire_types, Node, WireType};
-use crate::{label, spell, MAX_NODES, NO_DEDUPLICATION, WORK_WORDS};
+use crate::{label, spell, MAX_NODES, NO_DEDUPLICATION, NULL_TERMINATED_STRINGS, WORK_WORDS};
 
 /// Both sides of the most that a node can be, and what is equal to a node in its low bits.
 pub const EDGE_NODES: [u64; 12] = [
@@ -125,7 +125,7 @@ pub fn cases(kind: char) -> Vec<Case> {
 }
 
 /// A tree as it is written and as it is read.
-fn both_ways(cases: &mut Vec<Case>, nodes: &[Node], list: &[u64], pool: &[u8], modes: u64) {
+pub fn both_ways(cases: &mut Vec<Case>, nodes: &[Node], list: &[u64], pool: &[u8], modes: u64) {
     let types = wire_types(nodes);
     let message = spell::spell(&types, list, pool, modes, &mut |_| 1).message();
     cases.push(read(nodes, &message));
@@ -136,8 +136,9 @@ fn every_wrapping(cases: &mut Vec<Case>) {
     let nodes = table_wrapped();
     for (null, absent) in [(false, false), (true, false), (false, true), (true, true)] {
         let list = tree(&nodes, null, absent);
-        both_ways(cases, &nodes, &list, b"ok", 0);
-        both_ways(cases, &nodes, &list, b"ok", 37);
+        for modes in [0, NULL_TERMINATED_STRINGS, 37, 37 | NULL_TERMINATED_STRINGS] {
+            both_ways(cases, &nodes, &list, b"ok", modes);
+        }
     }
     // An error told elsewhere is a null under its NULLABLE.
     cases.push(read(&table_r(), b"\x08\x02\x0a\x02\x05"));

@@ -1,7 +1,7 @@
 //! Texts on both sides of each bound of UTF-8, read and written; and random ones near the bounds.
 
 use super::assemble;
-use super::fixed::{read, table_r, table_s, write, OUT, ROWS};
+use super::fixed::{end_text, read, table_r, table_s, write, OUT, ROWS};
 use crate::case::Case;
 use crate::rng::Rng;
 use crate::table::{self, file, Node};
@@ -115,7 +115,7 @@ pub fn table_bytes() -> Vec<Node> {
 }
 
 /// An array of texts that have no numbers.
-fn table_plain() -> Vec<Node> {
+pub fn table_plain() -> Vec<Node> {
     let mut nodes = table_s();
     nodes[1].flags = 0;
     nodes
@@ -127,17 +127,18 @@ pub fn message(texts: &[&[u8]], modes: u64) -> Vec<u8> {
     label::put(texts.len() as i64, &mut core);
     for text in texts {
         label::put(text.len() as i64, &mut core);
-        if modes & INLINE_EVERYTHING != 0 {
-            core.extend(*text);
-        } else {
-            block.extend(*text);
-        }
+        let piece = match modes & INLINE_EVERYTHING {
+            0 => &mut block,
+            _ => &mut core,
+        };
+        piece.extend(*text);
+        end_text(piece, modes);
     }
     assemble(modes, vec![block], core)
 }
 
 /// Rows of these texts, which follow each other in their pool.
-fn list(kind: u64, texts: &[&[u8]]) -> Vec<u64> {
+pub fn list(kind: u64, texts: &[&[u8]]) -> Vec<u64> {
     let mut list = vec![rows::ARRAY, texts.len() as u64, 0, 0];
     let mut start = 0;
     for text in texts {
@@ -147,7 +148,7 @@ fn list(kind: u64, texts: &[&[u8]]) -> Vec<u64> {
     list
 }
 
-fn written(modes: u64, texts: &[&[u8]]) -> Case {
+pub fn written(modes: u64, texts: &[&[u8]]) -> Case {
     let list = list(rows::STRING, texts);
     write(&table_s(), modes, &list, &texts.concat())
 }
@@ -238,7 +239,7 @@ fn beside_others(cases: &mut Vec<Case>) {
     }
 }
 
-fn lent(rows: usize, nodes: &[Node], message: Vec<u8>) -> Case {
+pub fn lent(rows: usize, nodes: &[Node], message: Vec<u8>) -> Case {
     Case::Read {
         work: WORK_WORDS,
         rows,
@@ -382,7 +383,8 @@ fn too_many(cases: &mut Vec<Case>) {
     }
 }
 
-/// A text of `len` bytes that is right: letters mostly, or characters of one size, or of any.
+/// A text of `len` bytes that is right: letters mostly, or with zero bytes among them, or characters of one size, or of
+/// any.
 pub fn right(rng: &mut Rng, len: usize) -> Vec<u8> {
     let way = rng.below(8);
     let mut text = Vec::new();
@@ -395,6 +397,7 @@ pub fn right(rng: &mut Rng, len: usize) -> Vec<u8> {
         };
         match size {
             1..=4 if size <= len - text.len() => text.extend(rng.pick(RIGHT[size - 1])),
+            _ if way == 7 && rng.one_in(3) => text.push(0),
             _ => text.push(b'a' + rng.below(4) as u8),
         }
     }
