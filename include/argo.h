@@ -41,8 +41,14 @@
  * TEXT
  *   A STRING is UTF-8 by RFC 3629: 00 to 7F alone; C2 to DF and one byte 80 to BF; E0 to EF and two; F0 to F4 and
  *   three; where the byte after E0 is A0 to BF, after ED 80 to 9F, after F0 90 to BF, after F4 80 to 8F. So it has the
- *   code points 0 to 10FFFF without D800 to DFFF, each in its shortest form. It may have zero bytes, and none is added
- *   to end it. Reading and writing judge it; argo_look and argo_part do not, so a row that was not read may be no text.
+ *   code points 0 to 10FFFF without D800 to DFFF, each in its shortest form. It may have zero bytes. Reading and writing
+ *   judge it; argo_look and argo_part do not, so a row that was not read may be no text.
+ *   In a message of ARGO_NULL_TERMINATED one 00 follows each STRING that is written out, in no row's length. So right
+ *   behind the part of each STRING that argo_read has shown, also of one that is named by a number, stands a 00, inside
+ *   of the message: it may be used in place as a C string (examples/strings.c). Then mind two things. A text with a
+ *   zero byte of its own ends early for C: only where strlen is the part's length is it the whole text. And only a
+ *   STRING has the 00, only in this mode and only in the message that was read: there is none behind BYTES and FIXED,
+ *   and none in a pool that rows are written from, where the 00 is put by argo_write and never asked for.
  *
  * ANSWERS
  *   Every call returns, whatever the buffers hold, and the same arguments always have the same answer. An answer is a
@@ -56,8 +62,8 @@
  *   when reading, 20, 21, 22, the first fault in the tree's order, 30;
  *   when writing, 40, 41, the first row at fault, 32, 43;
  *   when looking at a row, 50, 51.
- *   At one value, when reading: 23, 24 to 26, 29, 27, 28, 32, 31, but an integer's own 23 comes after 29; when writing:
- *   42, 28. docs/REFUSALS.md says whose fault each one is, and what to do.
+ *   At one value, when reading: 23, 24 to 26, 29, 27, 35, 28, 32, 31, but an integer's own 23 comes after 29; when
+ *   writing: 42, 28. docs/REFUSALS.md says whose fault each one is, and what to do.
  *
  * THREADS, SIGNALS, STACK
  *   The library has no state, not even errno: calls may be made from several threads at once and from signal handlers,
@@ -76,10 +82,10 @@ extern "C" {
 
 /* The version of this header and of the library that belongs to it. While the first number is 0, another second one may
  * change the layout of rows or of a struct below: in 0.1 a row had three words and argo_seen no node. */
-#define ARGO_VERSION "0.2.0"
+#define ARGO_VERSION "0.2.1"
 #define ARGO_VERSION_MAJOR 0
 #define ARGO_VERSION_MINOR 2
-#define ARGO_VERSION_PATCH 0
+#define ARGO_VERSION_PATCH 1
 
 /* Words of 32 bits that a call wants as work, at least; rows that a message and nodes that a table has at most. */
 #define ARGO_WORK 16384
@@ -118,20 +124,21 @@ enum {
     ARGO_TABLE_KEY = 15,      /* a key disagrees with its first use; second: the BLOCK node */
 
     ARGO_MESSAGE_SIZE = 20,   /* the message is empty or has over 65,536 bytes */
-    ARGO_HEADER = 21,         /* the header is longer than a byte, or has another mode than 0, 2 and 5 */
+    ARGO_HEADER = 21,         /* the header is longer than a byte, or has another mode than 0, 2, 4 and 5 */
     ARGO_PIECES = 22,         /* there are no pieces, or the label of one is not its length */
     ARGO_LABEL = 23,          /* a label or VARINT in a piece is cut, over 64 bits or not shortest */
     ARGO_LABEL_PLACE = 24,    /* a label that is not allowed at this place */
     ARGO_ERROR = 25,          /* an error under NULLABLE, without mode 2 */
     ARGO_BACKREFERENCE = 26,  /* a number that was not given, of a key without numbers, or in mode 5 */
-    ARGO_CUT = 27,            /* a piece ends before the value does */
+    ARGO_CUT = 27,            /* a piece ends before the value, or the 00 behind it, does */
     ARGO_TEXT = 28,           /* a STRING is not UTF-8, see TEXT; second: when writing, the row */
     ARGO_NO_BLOCK = 29,       /* no block is left for a key that is touched now */
     ARGO_UNUSED = 30,         /* bytes or blocks are left at the end */
     ARGO_MANY_ROWS = 31,      /* one row more than ARGO_ROWS, or than the whole rows that were lent */
     ARGO_MANY_LITERALS = 32,  /* over 4,096 numbered literals, all keys together; when writing, different values */
+    ARGO_TERMINATOR = 35,     /* in mode 4, the byte behind a STRING is not 00 */
 
-    ARGO_MODES = 40,          /* the modes to write in are others than 0, 2 and 5 */
+    ARGO_MODES = 40,          /* the modes to write in are others than 0, 2, 4 and 5 */
     ARGO_ROWS_SIZE = 41,      /* the rows are not whole or over ARGO_ROWS, or the pool has over 65,536 bytes */
     ARGO_UNFIT = 42,          /* a row that is bad, does not fit the table, has another node or is left over, or none */
                               /* where one must be; second: the row, or their count */
@@ -152,7 +159,7 @@ argo_answer argo_check(const uint8_t *table, size_t table_len, uint32_t *work, s
 /* Reads a message under a table into rows; rows_len is a count of words, ARGO_ROW_WORDS for each row, and words after
  * the last whole row are only zeroed. Answers how many rows there are, 1 to ARGO_ROWS. Places are counted in the
  * message, so it must be kept as long as the rows are used. The table is checked first, in each call.
- * Refusals: those of argo_check, ARGO_MESSAGE_SIZE to ARGO_MANY_LITERALS. */
+ * Refusals: those of argo_check, ARGO_MESSAGE_SIZE to ARGO_TERMINATOR. */
 argo_answer argo_read(const uint8_t *table, size_t table_len, const uint8_t *message, size_t message_len,
                       uint64_t *rows, size_t rows_len, uint32_t *work, size_t work_len);
 
@@ -160,6 +167,7 @@ argo_answer argo_read(const uint8_t *table, size_t table_len, const uint8_t *mes
 enum {
     ARGO_INLINE_EVERYTHING = 1,  /* mode 0: there are no blocks, and values stand in the core */
     ARGO_OUT_OF_BAND_ERRORS = 4, /* mode 2: an error stands for null */
+    ARGO_NULL_TERMINATED = 16,   /* mode 4: a 00 behind each STRING that is written out, see TEXT */
     ARGO_NO_DEDUPLICATION = 32   /* mode 5: no backreferences, each value is written out */
 };
 

@@ -13,11 +13,14 @@ impl Modes {
     pub const INLINE_EVERYTHING: Modes = Modes(1);
     /// Mode 2, OutOfBandFieldErrors: an error stands for null.
     pub const OUT_OF_BAND_ERRORS: Modes = Modes(1 << 2);
+    /// Mode 4, NullTerminatedStrings: a 00 follows each string that is written out, outside of its length. A `&str` that
+    /// was read does not have it.
+    pub const NULL_TERMINATED: Modes = Modes(1 << 4);
     /// Mode 5, NoDeduplication: each value is written out.
     pub const NO_DEDUPLICATION: Modes = Modes(1 << 5);
 
-    /// The set whose mode m is bit m of the number. Any number is taken; writing in modes other than 0, 2 and 5 is
-    /// refused with [`Refusal::Modes`](crate::Refusal::Modes).
+    /// The set whose mode m is bit m of the number. Any number is taken; writing in modes other than 0, 2, 4 and 5
+    /// is refused with [`Refusal::Modes`](crate::Refusal::Modes).
     pub const fn from_bits(bits: u64) -> Modes {
         Modes(bits)
     }

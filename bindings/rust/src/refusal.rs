@@ -35,7 +35,7 @@ pub enum Refusal {
 
     /// 20: the message is empty or has over 65,536 bytes.
     MessageSize,
-    /// 21: the header is longer than a byte, or has another mode than 0, 2 and 5.
+    /// 21: the header is longer than a byte, or has another mode than 0, 2, 4 and 5.
     Header,
     /// 22: there are no pieces, or the label of one is not its length.
     Pieces,
@@ -47,7 +47,7 @@ pub enum Refusal {
     Error,
     /// 26: a backreference to a number that was not given, of a key without numbers, or in mode 5.
     Backreference,
-    /// 27: a piece ends before the value does.
+    /// 27: a piece ends before the value does, or in mode 4 before the 00 behind a string.
     Cut,
     /// 28: a string is not UTF-8 by RFC 3629, which is what a `str` may hold. A [`Tree`](crate::Tree) has no other
     /// strings, so that only reading and [`look`](crate::look) answer it.
@@ -63,8 +63,10 @@ pub enum Refusal {
     ManyRows,
     /// 32: more than 4,096 numbered literals, all keys together; when writing, different values.
     ManyLiterals,
+    /// 35: in mode 4, the byte behind a string is not 00.
+    Terminator,
 
-    /// 40: the modes to write in are others than 0, 2 and 5.
+    /// 40: the modes to write in are others than 0, 2, 4 and 5.
     Modes,
     /// 41: over 8,192 rows, or a pool of over 65,536 bytes.
     RowsSize,
@@ -101,7 +103,7 @@ pub(crate) enum Call {
 }
 
 /// Those whose second number is always 0; 28 is among them for reading.
-const PLAIN: [Refusal; 22] = [
+const PLAIN: [Refusal; 23] = [
     Refusal::WorkShort,
     Refusal::TableMark,
     Refusal::TableVersion,
@@ -118,6 +120,7 @@ const PLAIN: [Refusal; 22] = [
     Refusal::Unused,
     Refusal::ManyRows,
     Refusal::ManyLiterals,
+    Refusal::Terminator,
     Refusal::Modes,
     Refusal::RowsSize,
     Refusal::NoRoom,
@@ -167,6 +170,7 @@ impl Refusal {
             Refusal::Unused => 30,
             Refusal::ManyRows => 31,
             Refusal::ManyLiterals => 32,
+            Refusal::Terminator => 35,
             Refusal::Modes => 40,
             Refusal::RowsSize => 41,
             Refusal::Unfit { .. } => 42,
@@ -221,7 +225,7 @@ impl Refusal {
             }
             Refusal::TableKey { .. } => "a key of the table disagrees with its first use",
             Refusal::MessageSize => "message empty or over 65,536 bytes",
-            Refusal::Header => "header longer than a byte, or a mode other than 0, 2 and 5 set",
+            Refusal::Header => "header longer than a byte, or a mode other than 0, 2, 4 and 5 set",
             Refusal::Pieces => "the message has no pieces, or a piece's label is not its length",
             Refusal::Label => "a label or VARINT is cut, over 64 bits, or not shortest",
             Refusal::LabelPlace => "a label is not allowed at its place",
@@ -229,13 +233,14 @@ impl Refusal {
             Refusal::Backreference => {
                 "a backreference to a number not yet given, for a key not deduplicating, or in mode 5"
             }
-            Refusal::Cut => "a piece ends before the value does",
+            Refusal::Cut => "a piece ends before the value, or the 00 behind it, does",
             Refusal::Text { .. } => "a string is not UTF-8",
             Refusal::NoBlock => "no block left for a key now touched",
             Refusal::Unused => "bytes or blocks unused at the end",
             Refusal::ManyRows => "one row more than 8,192 or than there is room for",
             Refusal::ManyLiterals => "more than 4,096 numbered literals, all keys together",
-            Refusal::Modes => "modes other than 0, 2 and 5",
+            Refusal::Terminator => "in mode 4, the byte behind a string is not 00",
+            Refusal::Modes => "modes other than 0, 2, 4 and 5",
             Refusal::RowsSize => "over 8,192 rows, or a pool over 65,536 bytes",
             Refusal::Unfit { .. } => {
                 "a row is malformed, does not fit the table, is missing or left over"
@@ -269,9 +274,9 @@ mod tests {
     use super::{Call, Refusal, PLAIN};
 
     /// The numbers of the feed's rules.
-    const NUMBERS: [u64; 26] = [
-        1, 10, 11, 12, 13, 14, 15, 20, 21, 22, 23, 24, 25, 26, 27, 28, 29, 30, 31, 32, 40, 41, 42,
-        43, 50, 51,
+    const NUMBERS: [u64; 27] = [
+        1, 10, 11, 12, 13, 14, 15, 20, 21, 22, 23, 24, 25, 26, 27, 28, 29, 30, 31, 32, 35, 40, 41,
+        42, 43, 50, 51,
     ];
 
     #[test]

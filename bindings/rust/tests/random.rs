@@ -150,7 +150,7 @@ fn random_trees_survive() {
         let table = Table::new(file(&nodes)).unwrap();
         assert_eq!(table.nodes(), nodes.len());
         let modes = [0, 1, 4, 5, 32, 33, 36, 37][random.below(8) as usize];
-        let modes = Modes::from_bits(modes);
+        let modes = Modes::from_bits(modes + 16 * random.below(2));
         let tree: Tree = values.iter().copied().collect();
         let message = codec.write(&table, modes, &tree).unwrap().to_vec();
         let rows = codec.read(&table, &message).unwrap();

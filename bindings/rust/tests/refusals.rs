@@ -189,6 +189,24 @@ fn messages_32() {
     );
 }
 
+/// In mode 4 the text and the 00 behind it must be there (27), then it must be 00 (35), then the text is judged (28).
+#[test]
+fn messages_35() {
+    let cases: [(&[u8], Refusal); 5] = [
+        (b"\x20\x02A\x04\x02\x02", Refusal::Cut),
+        (b"\x20\x02\xff\x04\x02\x02", Refusal::Cut),
+        (b"\x20\x04A\x01\x04\x02\x02", Refusal::Terminator),
+        (b"\x20\x04\xff\x01\x04\x02\x02", Refusal::Terminator),
+        (b"\x20\x04\xff\x00\x04\x02\x02", Refusal::Text { row: None }),
+    ];
+    for (message, refusal) in cases {
+        assert_eq!(refused_message(&texts(), message), refusal);
+    }
+    let rows = texts();
+    let rows = rows.read(b"\x20\x04A\x00\x04\x02\x02").unwrap();
+    assert_eq!(rows.get(1), Some(Value::Str("A")));
+}
+
 /// Both sides of each bound of RFC 3629.
 #[test]
 fn messages_28() {
@@ -223,7 +241,7 @@ fn messages_28() {
 fn trees_40_and_41() {
     let one = [Value::Array(0)];
     let tree: Tree = one.into_iter().collect();
-    for bits in [2, 8, 16, 1 << 63] {
+    for bits in [2, 8, 64, 1 << 63] {
         let refusal = texts().write(Modes::from_bits(bits), &tree).unwrap_err();
         assert_eq!(refusal, Refusal::Modes);
     }

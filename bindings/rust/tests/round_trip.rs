@@ -5,16 +5,17 @@ mod common;
 use argo::{Codec, Modes, Rows, Table, Tree, Value};
 use common::*;
 
-const ALL_MODES: [Modes; 3] = [
+const ALL_MODES: [Modes; 4] = [
     Modes::INLINE_EVERYTHING,
     Modes::OUT_OF_BAND_ERRORS,
+    Modes::NULL_TERMINATED,
     Modes::NO_DEDUPLICATION,
 ];
 
-/// Every set of the three.
+/// Every set of the four.
 fn sets() -> impl Iterator<Item = Modes> {
-    (0..8).map(|set| {
-        (0..3)
+    (0..16).map(|set| {
+        (0..4)
             .filter(|i| set >> i & 1 == 1)
             .fold(Modes::NONE, |modes, i| modes | ALL_MODES[i])
     })
@@ -230,7 +231,8 @@ fn modes_are_bits() {
     assert_eq!(Modes::default(), Modes::NONE);
 }
 
-/// Mode 0 has no blocks, mode 5 no numbers, and with mode 2 an error reads as null.
+/// Mode 0 has no blocks, mode 5 no numbers, mode 4 a 00 behind each text that is written out, and with mode 2 an error
+/// reads as null.
 #[test]
 fn modes_do_what_they_say() {
     let tree: Tree = [Value::Array(2), Value::Str("ab"), Value::Str("ab")]
@@ -242,6 +244,14 @@ fn modes_do_what_they_say() {
     assert_eq!(
         write(Modes::NO_DEDUPLICATION),
         b"\x40\x08abab\x06\x04\x04\x04"
+    );
+    assert_eq!(
+        write(Modes::NULL_TERMINATED),
+        b"\x20\x06ab\x00\x06\x04\x04\x07"
+    );
+    assert_eq!(
+        write(Modes::NULL_TERMINATED | Modes::INLINE_EVERYTHING),
+        b"\x22\x04\x04ab\x00\x07"
     );
     let rows = pair();
     let rows = rows.read(b"\x08\x02\x0a\x02\x05").unwrap();
