@@ -1,5 +1,6 @@
 // The C interface (include/argo.h). A slice is a pointer and a length; where the library answers an enum or a part of the
 // lent bytes, these functions answer the words or the place.
+#![tactic(auto)]
 ghost use Rattle.std.specs.Prelude.{◌≡◌, length};
 ghost use Rattle.format.specs.Answer.{ok, refuse, number, second, output, zeros};
 ghost use Rattle.format.specs.Table.{check};

@@ -1,5 +1,6 @@
 // Labels and VARINTs: numbers as words and by zig-zag, reading them at a cursor, writing them, and
 // their size.
+#![tactic(auto)]
 pub mod cursor;
 pub mod put;
 pub mod words;

@@ -1,1 +1,2 @@
 // Theorems about the definitions of `format`, apart from code: they stand in specs/.
+#![tactic(auto)]

@@ -1,6 +1,7 @@
 // The literals of all keys in the lent work, in one list, where each stands in the chain of its bucket: one with given words is found without a look at the others.
 // A literal is kept by two words: `write_search` says what stands in them.
 // What each word means stands in specs/Words.antt.
+#![tactic(auto)]
 ghost use Rattle.std.specs.Prelude.{◌≡◌, true, false, [], ◌+◌, ◌*◌, ◌%◌, ◌/◌, ◌<◌, ◌≤◌, ◌^◌, length, get_or};
 ghost use Rattle.format.specs.Read.{total as total_of};
 ghost use Rattle.store.specs.Words.{all_of};
