@@ -132,6 +132,7 @@ puts k bs (r ∷ rs) (here e h) = (label_size (pos (size r)) + length r.done, pu
 puts k bs (r ∷ rs) (behind e h) =
     let (i, p) = puts k bs rs h in
     (framed (size r) + i, puts-behind k bs r rs i e p)
+puts k bs [] x = elim x [ ]
 
 -- The blocks so far are what is written; the keys that come later have nothing yet.
 pub data Covers : List (ℕ × List ℕ) → List Region → Type 0 where
@@ -160,6 +161,7 @@ covers_more k bs (y ∷ ys) (r ∷ rs) (covered e f c) b = by_bool (eqb y.0 k)
     let t₁ : eqb r.key k ≡ false = rw e at t in
     let (h, c₁) = covers_more k bs ys rs c b₁ in
     (behind t₁ h, rw (bytes-behind k bs y ys t, extend-behind k bs r rs t₁) (covered e f c₁)))
+covers_more k bs (y ∷ ys) [] x b = elim x [ ]
 
 -- all of them written
 pub no-bytes : (l : List ℕ) → length l ≡ 0 → l ≡ []
@@ -175,3 +177,4 @@ zone-done (y ∷ ys) (r ∷ rs) (covered g f c) e rest =
     let n : r.left ≡ [] = no-bytes r.left (omega (arith, ap length f)) in
     let ih : zone rs rest ≡ block_pieces ys ++ rest = zone-done ys rs c (ap (λ l. drop 1 l) e) rest in
     rw (s, n, ih, ← f, append_assoc (label (pos (length y.1)) ++ y.1) (block_pieces ys) rest, append_assoc)
+zone-done (y ∷ ys) [] x e rest = elim x [ ]
