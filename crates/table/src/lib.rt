@@ -1,5 +1,6 @@
 // The table file: its check, and what a walk over a checked table asks of it.
 #![tactic(auto)]
+
 ghost use Rattle.std.specs.Prelude.{◌≡◌, ◌≤◌, length};
 ghost use Rattle.format.specs.Answer.{number, second, zeros};
 ghost use Rattle.format.specs.Table.{check, schema_of};

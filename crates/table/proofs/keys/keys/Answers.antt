@@ -1,0 +1,15 @@
+-- `table::keys::keys` meets its contract.
+use Rattle.format.specs.Table.{node_at}
+use Rattle.table.proofs.Notes.{cleared-beside, notes-cleared, beside-then}
+use native.Mathlib.Omega.{arith}
+use Rattle.table.proofs.keys.keys.Goals as goal
+
+pub agree_all-requires : goal.agree_all-requires
+agree_all-requires c = (
+  c.requires.0,
+  omega (arith, c.requires.1, (cleared-beside c.args.work.now _ c.requires.1 c.zero_words.ensures).size),
+  notes-cleared c.args.work.now _ c.requires.1 c.zero_words.ensures (node_at c.args.table.now),
+)
+
+pub returns : goal.returns
+returns c = record { value = c.agree_all.ensures.value; beside = beside-then (cleared-beside c.args.work.now _ c.requires.1 c.zero_words.ensures) c.agree_all.ensures.beside }
