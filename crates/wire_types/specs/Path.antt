@@ -1,9 +1,9 @@
 -- The path that is left: how many nodes a path may have from a node on, itself among them. At the root it is 32.
-use Rattle.std.specs.Prelude.{◌≡◌, refl, Bool, true, false, cond, List, ℕ, suc, ◌+◌, ◌-◌, ◌≤◌, eqb}
+use Rattle.std.specs.Prelude.{◌≡◌, Bool, true, false, cond, List, ℕ, ◌-◌, ◌≤◌, eqb}
 use Rattle.std.proofs.Common.{sym, ◌∙◌, arith}
-use Rattle.format.specs.Table.{node_at, NULLABLE, Wire, Node, plain, nullable, wire_of}
+use Rattle.format.specs.Table.{node_at, NULLABLE, Node, plain, nullable, wire_of}
 use Rattle.laws.specs.Tree.{depth_wire, depth}
-use Rattle.wire_types.specs.Typed.{IsNode, FitsNode, FitsWire, is_nullable, below}
+use Rattle.wire_types.specs.Typed.{FitsNode, FitsWire, is_nullable, below}
 use Rattle.wire_types.specs.Nodes.{depth-some, nullable-is, wire-of}
 
 -- below a node that is a NULLABLE, or not

@@ -1,5 +1,5 @@
 -- The wire type that a checked table has at a node, and what a walk that comes to the node asks of it.
-use Rattle.std.specs.Prelude.{◌≡◌, Bool, true, false, cond, List, ℕ, suc, ◌+◌, ◌*◌, ◌≤◌, length}
+use Rattle.std.specs.Prelude.{◌≡◌, Bool, true, false, cond, List, ℕ, ◌+◌, ◌*◌, ◌≤◌, length}
 use Rattle.format.specs.Answer.{ok}
 use Rattle.format.specs.Table.{u16, node_at, Wire, Node, plain, nullable, Fields, Held, Schema, held_by, schema_of}
 use Rattle.format.specs.Read.{field_count}

@@ -2,6 +2,7 @@
 // And what both walks ask on their way: whether a value of a run may be absent, where its own node is, what is left of the
 // path there, and where the next value's node is.
 #![tactic(auto)]
+
 ghost use Rattle.std.specs.Prelude.{◌≡◌, ◌+◌, ◌*◌, ◌≤◌, ◌<◌, length};
 ghost use Rattle.format.specs.Table.{node_at};
 ghost use Rattle.wire_types.specs.Typed.{below as below_of};
