@@ -2,6 +2,7 @@
 // The functions over it are thin, and their work is the cursor's. No proof of a caller need know the struct: callers use
 // the two functions at the end, which take a plain slice and a number.
 #![tactic(auto)]
+
 ghost use Rattle.std.specs.Prelude.{◌≡◌, ◌-◌, length};
 ghost use Rattle.label.specs.Cursor.{cursor, label_at};
 
