@@ -9,9 +9,9 @@ use lib.Dec.{T}
 use lib.IntN.{ℤ, pos, negsuc, nat_abs}
 use lib.ListN.{length, drop, length-drop}
 use lib.Seq.{slice, take-length}
-use lib.Signed.{lt_z, non_neg, pos-nat_abs, nat_abs-le}
+use lib.Signed.{lt_z, non_neg, pos-nat_abs}
 use mir.Syntax.{w64}
-use mir.Val.{Fits, SFits, to_z, of_z}
+use mir.Val.{SFits, to_z, of_z}
 use mir.ValLaws.{to_z-of_z}
 use borrow.Author.Tests.{ltb-true}
 use Rattle.format.specs.Label.{read_label, zigzag, Signed64}
@@ -74,9 +74,6 @@ module _ (m : List ℕ) (at : ℕ) where
     module _ (h : lt_z (held n) (pos 0) ≡ false) where
       size_is : read_label (drop at m) ≡ some (pos (nat_abs (held n)), drop next.at m)
       size_is = rw (pos-nat_abs (held n) (from_zero (held n) h), held-is) labelled.is
-
-      pub at-cast : T (non_neg (held n)) × Fits w64 (nat_abs (held n))
-      at-cast = (from_zero (held n) h, record { fits = rw held-is (omega (arith, nat_abs-le n labelled.fits.sfits)) })
 
       pub at_long : length m - next.at < nat_abs (held n) → NoPiece m at
       at_long l = long size_is (rw length-drop l)

@@ -1,5 +1,6 @@
 // The message cut into pieces: the core, and the blocks in front of it, which are handed out one by one.
 #![tactic(auto)]
+
 ghost use Rattle.read_pieces.specs.Pieces.{Blocks, PieceIs, Parted, Gave};
 
 use label::{Cursor, Label};

@@ -1,16 +1,14 @@
--- `read_pieces::next_block` meets its contract: the chain is at its end, or begins with the piece that stands there. Assumes nothing.
+-- `read_pieces::next_block` meets its contract: the chain is at its end, or begins with the piece that stands there.
 use mathlib.Core.Path.{◌≡◌, sym, subst}
 use mathlib.Core.List.{List}
 use Prim.Native.Nat.{ℕ}
 use native.Mathlib.Omega.{arith}
-use borrow.Author.Rules.{rules}
 use Rattle.format.specs.Read.{Reading}
 use Rattle.read_pieces.specs.declared.Given.{Given}
 use Rattle.read_pieces.specs.declared.Given.TheVariants.{Block, Nothing}
 use Rattle.read_pieces.specs.Chain.{Chain, chain_first, chain-le, piece-unique, piece-not, waiting_none, waiting-step}
 use Rattle.read_pieces.specs.Pieces.{Blocks, PieceIs, Gave}
-use Rattle.read_pieces.proofs.next_block.Statement.{statement}
-use Rattle.read_pieces.proofs.next_block.Tie as tie
+use Rattle.read_pieces.proofs.next_block.Goals as goal
 
 module _ (m : List ℕ) {at end : ℕ} where
   gave-none : at ≡ end → Gave m at end Nothing
@@ -26,16 +24,8 @@ module _ (m : List ℕ) {at end : ℕ} where
       }
   gave Nothing b apart n = absurd (piece-not (chain_first b.chain apart).1 n)
 
-returns : tie.Need-returns
-returns c = gave-none c.before.before.before.args.m.now c.if1.true
+pub returns-then-at-rest : goal.returns-then-at-rest
+returns-then-at-rest c = gave-none c.args.m.now c.if-at-rest.true
 
-piece-at-requires : tie.Need-piece-at-requires
-piece-at-requires c κs = search rules
-
-returns-2 : tie.Need-returns-2
-returns-2 c =
-    let o = c.before.before.before.before in
-    gave o.args.m.now c.piece-at.result o.requires c.before.if1.false c.piece-at.ensures
-
-pub next-block-spec : {M : Type 1} → statement M
-next-block-spec = tie.close (tie.spec returns piece-at-requires returns-2)
+pub returns : goal.returns
+returns c = gave c.args.m.now c.piece_at.result c.requires c.if-at-rest.false c.piece_at.ensures
