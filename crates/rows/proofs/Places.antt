@@ -1,14 +1,12 @@
 -- A row against the wanted node and kind, by its words, and the place that is found. Assumes nothing.
 use mathlib.Core.Path.{◌≡◌, refl, ap, sym, ◌∙◌}
 use mathlib.Core.Bool.{Bool, true, false, cond, ◌&&◌}
-use mathlib.Core.List.{List, [], ◌∷◌}
+use mathlib.Core.List.{List, []}
 use mathlib.Core.Option.{none, some}
 use Prim.Native.Nat.{ℕ, ◌+◌, ◌*◌, ◌<◌, ◌≤◌}
 use native.Mathlib.Omega.{arith}
 use lib.Dec.{leb, eqb}
 use lib.ListN.{get_or}
-use denote.Enum.Declared.{tag_of}
-use types.Run.{OneOf, miss}
 use borrow.Author.Tests.{leb-true, leb-false, eq-eqb, ne_eqb}
 use Rattle.format.specs.Answer.{Answer, ok, refuse, ◌>>=◌, ◌>>◌, need_at, or_refuse}
 use Rattle.format.specs.Row.{Says, bare, placed, Row, row, Place, bytes_at, true_row, string_row, array_row, is_place, is_inside, row_width, row_count, row_node, found, says_part, part_of}
@@ -17,11 +15,13 @@ use Rattle.rows.specs.declared.Seen.{Seen}
 use Rattle.rows.specs.declared.Seen.TheVariants.{Null, Absent, Truth, Integer, Float, Place as At, Count, Refused}
 use Rattle.rows.specs.Seen.{seen, seen_under, found_under, inside, look_at_words}
 use Rattle.rows.specs.Placed.{place_in, place_of, place_found}
-use Rattle.rows.specs.contracts.Seen.{the_type}
 use Rattle.rows.proofs.Laws.{from-none, from_one, look-both, under-other, under-beyond, under-row, words_inside, found_inside}
 
 -- A row that is no place.
-no_place : (kind : ℕ) (s : Seen) → OneOf (0 ∷ 1 ∷ 2 ∷ 3 ∷ 4 ∷ 6 ∷ 7 ∷ []) (tag_of the_type s) → place_in kind (seen s) ≡ none
+abbrev pub NoPlace : Seen → Type 0
+NoPlace s = (kind start size : ℕ) → s ≡ At kind start size → ⊥
+
+no_place : (kind : ℕ) (s : Seen) → NoPlace s → place_in kind (seen s) ≡ none
 unfolding place_in seen
 no_place kind Null h = refl
 no_place kind Absent h = refl
@@ -29,7 +29,7 @@ no_place kind (Truth false) h = refl
 no_place kind (Truth true) h = refl
 no_place kind (Integer n) h = refl
 no_place kind (Float f b) h = refl
-no_place kind (At k start size) h = absurd (miss (0 ∷ 1 ∷ 2 ∷ 3 ∷ 4 ∷ 6 ∷ 7 ∷ []) 5 tt h)
+no_place kind (At k start size) h = absurd (h k start size refl)
 no_place kind (Count k n) h = refl
 no_place kind (Refused n) h = refl
 
@@ -88,7 +88,7 @@ module _ (ws : List ℕ) (count i node kind : ℕ) where
 
     -- what it shows
     module _ (s : Seen) (e : seen s ≡ found_under node ws count i) where
-      pub shown-not : OneOf (0 ∷ 1 ∷ 2 ∷ 3 ∷ 4 ∷ 6 ∷ 7 ∷ []) (tag_of the_type s) → none ≡ place_in kind (found_under node ws count i)
+      pub shown-not : NoPlace s → none ≡ place_in kind (found_under node ws count i)
       shown-not h = sym (ap (place_in kind) (sym e) ∙ no_place kind s h)
 
       pub shown-at : {k start size : ℕ} → s ≡ At k start size → k ≡ kind
@@ -99,7 +99,7 @@ module _ (ws : List ℕ) (count i node kind : ℕ) where
           (sym (ap (place_in kind) l ∙ rw (eq-eqb k kind z)), words_inside _ _ _ count (sym (under-row ws count i node there under) ∙ l))
 
 -- The place of a row that was found, whatever its kind and node.
-found-no-place : (n : ℕ) (s : Seen) → OneOf (0 ∷ 1 ∷ 2 ∷ 3 ∷ 4 ∷ 6 ∷ 7 ∷ []) (tag_of the_type s) → place_found (seen_under n s) ≡ none
+found-no-place : (n : ℕ) (s : Seen) → NoPlace s → place_found (seen_under n s) ≡ none
 unfolding place_found place_of seen_under seen ◌>>=◌
 found-no-place n Null h = refl
 found-no-place n Absent h = refl
@@ -107,12 +107,12 @@ found-no-place n (Truth false) h = refl
 found-no-place n (Truth true) h = refl
 found-no-place n (Integer m) h = refl
 found-no-place n (Float f b) h = refl
-found-no-place n (At k start size) h = absurd (miss (0 ∷ 1 ∷ 2 ∷ 3 ∷ 4 ∷ 6 ∷ 7 ∷ []) 5 tt h)
+found-no-place n (At k start size) h = absurd (h k start size refl)
 found-no-place n (Count k m) h = refl
 found-no-place n (Refused m) h = refl
 
 module _ (ws : List ℕ) (count i n : ℕ) (s : Seen) (e : seen_under n s ≡ found ws count i) where
-  pub found-not : OneOf (0 ∷ 1 ∷ 2 ∷ 3 ∷ 4 ∷ 6 ∷ 7 ∷ []) (tag_of the_type s) → none ≡ place_found (found ws count i)
+  pub found-not : NoPlace s → none ≡ place_found (found ws count i)
   found-not h = sym (ap place_found (sym e) ∙ found-no-place n s h)
 
   pub found_at : {k start size : ℕ} → s ≡ At k start size → (some (record { start = start; size = size }) ≡ place_found (found ws count i)) × (start + size ≤ count)

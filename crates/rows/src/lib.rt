@@ -1,5 +1,6 @@
 // Rows in lent buffers: putting one, looking at one, and the part of the lent bytes that one names.
 #![tactic(auto)]
+
 ghost use Rattle.std.specs.Prelude.{◌≡◌, true, [], ◌∷◌, ◌+◌, ◌*◌, ◌≤◌, length};
 ghost use Rattle.std.proofs.lemmas.List.Edits.{sets};
 ghost use Rattle.format.specs.Row.{row_width, placed, is_place, from_words, row_node, found as found_of, look as look_of, part as part_of, float_of};
