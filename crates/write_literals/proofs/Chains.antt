@@ -3,7 +3,6 @@ use mathlib.Core.Path.{◌≡◌, refl, sym, ap, ap₂, ◌∙◌}
 use mathlib.Core.List.{List}
 use Prim.Native.Nat.{ℕ, zero, suc, ◌+◌, ◌-◌, ◌*◌, ◌/◌, ◌%◌, ◌<◌, ◌≤◌}
 use native.Mathlib.Omega.{arith}
-use Rattle.laws.specs.Facts.{by-eq}
 use Rattle.store.specs.Words.{word, all_of}
 use Rattle.write_literals.specs.Words.{bucket, bucket_of, link_at, lane, head_of, link_of, On, First, GoodLiterals, Tail}
 use Rattle.write_literals.specs.Laws.{head-none, head-on, head-off, head-beyond}

@@ -8,7 +8,7 @@ use lib.Dec.{ltb}
 use lib.ListN.{length, set, length-set, length-append}
 use Rattle.format.specs.Read.{total}
 use Rattle.laws.specs.Facts.{by-eq, by-lt}
-use Rattle.store.specs.Lists.{upto, upto-add_at, sum-at}
+use Rattle.store.specs.Lists.{upto-add_at, sum-at}
 use Rattle.store.specs.Words.{word, all_of, count_of}
 use Rattle.store.specs.Slots.{skip, hit, slots-below}
 use Rattle.write_literals.specs.Store.{Literal, added, literal-eq, store-eq}

@@ -1,6 +1,6 @@
 -- The search along a chain.
-use mathlib.Core.Path.{◌≡◌, refl, sym, ap, ap₂, ◌∙◌}
-use mathlib.Core.List.{List, [], ◌∷◌, ◌++◌}
+use mathlib.Core.Path.{◌≡◌, sym, ap, ap₂, ◌∙◌}
+use mathlib.Core.List.{List, []}
 use mathlib.Core.Option.{some}
 use Prim.Native.Nat.{ℕ, zero, suc, ◌+◌, ◌-◌, ◌*◌, ◌/◌, ◌%◌, ◌<◌, ◌≤◌, ◌^◌}
 use native.Mathlib.Omega.{arith}
@@ -10,7 +10,7 @@ use Rattle.laws.specs.Facts.{by-eq, by-lt}
 use Rattle.store.specs.Laws.{nth-below}
 use Rattle.store.specs.Words.{word, all_of}
 use Rattle.write_literals.specs.Store.{Literal, literal-eq}
-use Rattle.write_literals.specs.Words.{literal_at, owner_of, key_at, number_at, bucket, bucket_of, key_literals, store_of, head_of, link_of, First, Good, Meets, Sought}
+use Rattle.write_literals.specs.Words.{literal_at, key_at, bucket, bucket_of, key_literals, store_of, head_of, link_of, First, Good, Meets, Sought}
 use Rattle.write_literals.specs.Laws.{literals-at, head-none, head-on, head-off}
 use Rattle.write_literals.proofs.Places.{bucket-small, leads-next, key-literals-nth, From, key-literals-from}
 use Rattle.write_literals.proofs.Chains.{left, left_less}

@@ -4,7 +4,7 @@ use Prim.Native.Nat.{ℕ, zero, suc, ◌+◌, ◌-◌, ◌%◌, ◌<◌, ◌≤�
 use native.Mathlib.Omega.{arith}
 use Rattle.std.proofs.Common.{eq-eqb, ne_eqb}
 use Rattle.laws.specs.Facts.{by-eq, by-lt}
-use Rattle.store.specs.Lists.{sum_to, sum-zero, sum-snoc, sum-ext, sum-at}
+use Rattle.store.specs.Lists.{sum_to, sum-zero, sum-ext, sum-at}
 use Rattle.store.specs.Words.{all_of}
 use Rattle.write_literals.specs.Words.{bucket, bucket_of, link_of, On, First, Linked}
 

@@ -2,6 +2,7 @@
 // A literal is kept by two words: `write_search` says what stands in them.
 // What each word means stands in specs/Words.antt.
 #![tactic(auto)]
+
 ghost use Rattle.std.specs.Prelude.{◌≡◌, true, false, [], ◌+◌, ◌*◌, ◌%◌, ◌/◌, ◌<◌, ◌≤◌, ◌^◌, length, get_or};
 ghost use Rattle.format.specs.Read.{total as total_of};
 ghost use Rattle.store.specs.Words.{all_of};
