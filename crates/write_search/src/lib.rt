@@ -1,5 +1,6 @@
 // The earlier literal of a key that has the same bytes as a text.
 #![tactic(auto)]
+
 ghost use Rattle.std.specs.Prelude.{◌≡◌, true, [], ℕ, ◌+◌, ◌<◌, ◌≤◌, ◌^◌, length, get_or};
 ghost use Rattle.format.specs.Row.{bytes_at};
 ghost use Rattle.format.specs.Write.{first_equal};
