@@ -1,7 +1,7 @@
 -- Literals: where one stands, that there is always a page for the next, and what one more makes of them.
 use mathlib.Core.Path.{◌≡◌, sym, ap, ap₂, ◌∙◌}
 use mathlib.Core.List.{List, [], ◌∷◌, ◌++◌}
-use mathlib.Core.Option.{some, some-injective}
+use mathlib.Core.Option.{some}
 use Prim.Native.Nat.{ℕ, ◌+◌, ◌-◌, ◌*◌, ◌/◌, ◌%◌, ◌<◌, ◌≤◌}
 use native.Mathlib.Omega.{arith}
 use native.Mathlib.Numerals.{add-one}
@@ -10,11 +10,11 @@ use borrow.Author.Tests.{ne_eqb}
 use Rattle.format.specs.Row.{Place}
 use Rattle.format.specs.Read.{nth, total}
 use Rattle.laws.specs.Facts.{by-eq}
-use Rattle.store.specs.Lists.{upto, upto-length, upto-get_or, upto-nth, upto-ext, upto_snoc, upto-add_at, upto-total, sum-ext, sum-ge, sum-at, sum-pages}
+use Rattle.store.specs.Lists.{upto, upto-nth, upto-ext, upto_snoc, upto-add_at, sum-at, sum-pages}
 use Rattle.store.specs.Store.{added}
 use Rattle.store.specs.Words.{word, all_of, count_of}
 use Rattle.read_literals.specs.Words.{taken, pages, page_of, cell_at, cell_of, place_at, literal_of, literals_of, store_of, GoodLiterals, Good, Changes, next_page, Written}
-use Rattle.read_literals.specs.Laws.{literals-length, literals-at, count-is, count_most, total-is}
+use Rattle.read_literals.specs.Laws.{literals-at, count-is, count_most, total-is}
 use Rattle.store.specs.Slots.{skip, hit, reading-eq, place-eq, store-eq, slots-below}
 
 literal-is : (w : List ℕ) (k j : ℕ) → k < 32 → j < count_of w k → nth (get_or (store_of w).literals k []) j ≡ some (literal_of w k j)

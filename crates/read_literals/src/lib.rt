@@ -1,6 +1,7 @@
 // The numbered literals of each key in the lent work, on pages: a literal is found by its number in constant time.
 // What each word means, and why they are enough, stands in specs/Words.antt.
 #![tactic(auto)]
+
 ghost use Rattle.std.specs.Prelude.{◌≡◌, [], ◌+◌, ◌*◌, ◌%◌, ◌<◌, ◌≤◌, ◌^◌, length, get_or};
 ghost use Rattle.std.proofs.Math.Option.{some};
 ghost use Rattle.format.specs.Read.{nth, total as total_of};
