@@ -17,7 +17,7 @@ use rows::kind;
 
 // 0 and a count, or a refusal's number and second number.
 #[repr(C)]
-#[derive(Drop)]
+#[derive(Clone, Copy)]
 pub struct Answer {
     pub number: u64,
     pub second: u64,
@@ -25,7 +25,7 @@ pub struct Answer {
 
 // A row that was looked at: its four words, and the float of a float's row; all 0 where it is refused.
 #[repr(C)]
-#[derive(Drop)]
+#[derive(Clone, Copy)]
 pub struct Seen {
     pub number: u64,
     pub second: u64,
@@ -38,7 +38,7 @@ pub struct Seen {
 
 // Where a part stands in the lent bytes.
 #[repr(C)]
-#[derive(Drop)]
+#[derive(Clone, Copy)]
 pub struct Place {
     pub start: u64,
     pub len: u64,

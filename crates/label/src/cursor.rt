@@ -7,20 +7,20 @@ ghost use Rattle.label.specs.declared.cursor.Varint.TheVariants.{Number, Broken}
 use super::words;
 
 // How far a piece has been read, and where it ends.
-#[derive(Drop)]
+#[derive(Clone, Copy)]
 pub struct Cursor {
     pub at: usize,
     pub end: usize,
 }
 
 // What stands at a cursor, and the cursor moved past it.
-#[derive(Drop)]
+#[derive(Clone, Copy)]
 pub enum Varint {
     Number(u64, Cursor),
     Broken,
 }
 
-#[derive(Drop)]
+#[derive(Clone, Copy)]
 pub enum Label {
     Got(i64, Cursor),
     Bad,

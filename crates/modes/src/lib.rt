@@ -6,7 +6,7 @@ ghost use Rattle.format.specs.Read.{ending};
 ghost use Rattle.modes.specs.Header.{header_of};
 
 // The modes of a header byte, or none that this codec reads.
-#[derive(Drop)]
+#[derive(Clone, Copy)]
 pub enum Header {
     Modes(u64),
     Other,

@@ -17,13 +17,13 @@ use read_pieces::Given;
 use store::Slot;
 
 // Bytes of the message: their start and size, and the core as far as it has been read; or the refusal.
-#[derive(Drop)]
+#[derive(Clone, Copy)]
 pub enum Part {
     At(usize, usize, Cursor),
     Refused(u64),
 }
 
-#[derive(Drop)]
+#[derive(Clone, Copy)]
 pub enum Number {
     Is(i64, Cursor),
     Refused(u64),

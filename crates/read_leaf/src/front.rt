@@ -8,14 +8,14 @@ ghost use Rattle.read_leaf.specs.Promises.{Owns, Bare};
 use label::{Cursor, Label};
 
 // A label in front of a value that has been read already, or none.
-#[derive(Drop)]
+#[derive(Clone, Copy)]
 pub enum Front {
     Open,
     Label(i64),
 }
 
 // A label from 0 up; or below 0, and then how far below -1.
-#[derive(Drop)]
+#[derive(Clone, Copy)]
 pub enum Size {
     Of(usize),
     Below(usize),

@@ -21,7 +21,7 @@ pub mod push;
 mod text;
 
 // The core as far as it has been read, and how many rows there are; or the refusal, which ends the whole walk.
-#[derive(Drop)]
+#[derive(Clone, Copy)]
 pub enum Progress {
     Done(Cursor, usize),
     Refused(u64),

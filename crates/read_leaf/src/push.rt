@@ -9,7 +9,7 @@ use format::{MOST_ROWS, ROW_WIDTH};
 use label::Cursor;
 
 // How many rows there are with it; or there may be no more.
-#[derive(Drop)]
+#[derive(Clone, Copy)]
 pub enum Put {
     Next(usize),
     Full,

@@ -29,7 +29,7 @@ const CELL: usize = 4096;
 const SIZE: usize = 64;
 
 // The place of a literal.
-#[derive(Drop)]
+#[derive(Clone, Copy)]
 pub struct Place {
     pub start: usize,
     pub size: usize,

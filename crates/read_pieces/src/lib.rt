@@ -6,14 +6,14 @@ ghost use Rattle.read_pieces.specs.Pieces.{Blocks, PieceIs, Parted, Gave};
 use label::{Cursor, Label};
 
 // The core, and where the blocks stand: from the label of the first to that of the core.
-#[derive(Drop)]
+#[derive(Clone, Copy)]
 pub enum Parts {
     Found(Cursor, Cursor),
     Bad,
 }
 
 // A block. The label after it stands where it ends.
-#[derive(Drop)]
+#[derive(Clone, Copy)]
 pub enum Given {
     Block(Cursor),
     Nothing,

@@ -14,7 +14,7 @@ use read_leaf::front::Front;
 use table::nodes;
 
 // A record or an array that holds one value and no more: whether it is an array, and the core behind its label.
-#[derive(Drop)]
+#[derive(Clone, Copy)]
 pub enum Holder {
     Of(bool, Cursor),
     Not,
@@ -22,7 +22,7 @@ pub enum Holder {
 
 // The first value inside that is no such holder: its node, whether it may be absent, the core, how many rows there are,
 // and the path that is left. Or a holder is refused.
-#[derive(Drop)]
+#[derive(Clone, Copy)]
 pub enum Descent {
     To(usize, bool, Cursor, usize, usize),
     Refused(u64),

@@ -10,21 +10,21 @@ use rows::kind;
 
 // The value is absent or null, and then its row is of this kind; or it is there, with the label in front of it if one
 // was read.
-#[derive(Drop)]
+#[derive(Clone, Copy)]
 pub enum Seen {
     Gone(u64),
     Here(Front),
 }
 
 // What a label in front says; or it is an error, where none may stand.
-#[derive(Drop)]
+#[derive(Clone, Copy)]
 pub enum Meant {
     Says(Seen),
     Error,
 }
 
 // What was seen, and the core behind it.
-#[derive(Drop)]
+#[derive(Clone, Copy)]
 pub enum Opening {
     Read(Seen, Cursor),
     Refused(u64),

@@ -15,14 +15,14 @@ use rows::kind;
 use table::nodes;
 
 // How many values it holds, and the core behind its label.
-#[derive(Drop)]
+#[derive(Clone, Copy)]
 pub enum Count {
     Of(usize, Cursor),
     Refused(u64),
 }
 
 // The same, and how many rows there are with its own.
-#[derive(Drop)]
+#[derive(Clone, Copy)]
 pub enum Parent {
     Made(usize, Cursor, usize),
     Refused(u64),

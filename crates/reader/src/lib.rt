@@ -17,7 +17,7 @@ use read_pieces::Parts;
 use table::Answer;
 
 // Where the core stands, or the message is not cut into pieces.
-#[derive(Drop)]
+#[derive(Clone, Copy)]
 pub enum Begun {
     Core(Cursor),
     Bad,

@@ -18,7 +18,7 @@ const SIGN: u64 = 0x8000000000000000;
 const INFINITY: u64 = 0x7ff0000000000000;
 
 // What a row says. A float's bits go beside it, since a NaN does not keep its own.
-#[derive(Drop)]
+#[derive(Clone, Copy)]
 pub enum Seen {
     Null,
     Absent,
@@ -40,7 +40,7 @@ pub enum Seen {
 }
 
 // Some of the lent bytes.
-#[derive(Drop)]
+#[derive(Clone, Copy)]
 pub enum Placed {
     At(usize, usize),
     Not,

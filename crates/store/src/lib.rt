@@ -41,14 +41,14 @@ const COUNT_END: usize = 1216;
 // Where the piece of each key begins. Only the reader keeps it.
 const START: usize = 1216;
 
-#[derive(Drop)]
+#[derive(Clone, Copy)]
 pub struct Reading {
     pub at: usize,
     pub end: usize,
 }
 
 // A slot with its key.
-#[derive(Drop)]
+#[derive(Clone, Copy)]
 pub struct Touched {
     pub key: usize,
     pub at: usize,
@@ -56,7 +56,7 @@ pub struct Touched {
 }
 
 // What stands under a key.
-#[derive(Drop)]
+#[derive(Clone, Copy)]
 pub enum Slot {
     At(usize, usize),
     Untouched,

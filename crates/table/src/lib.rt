@@ -18,7 +18,7 @@ use format::WORK_WORDS;
 use progress::Progress;
 
 // What a call answers: 0 and the node count, or a refusal's number and second number.
-#[derive(Drop)]
+#[derive(Clone, Copy)]
 pub struct Answer {
     pub number: u64,
     pub second: u64,

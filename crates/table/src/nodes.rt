@@ -27,7 +27,7 @@ pub const BLOCK: u8 = 9;
 pub const NULLABLE: u8 = 10;
 
 // What a key holds.
-#[derive(Drop)]
+#[derive(Clone, Copy)]
 pub enum Leaf {
     String,
     Varint,

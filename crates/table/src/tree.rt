@@ -10,7 +10,7 @@ use super::progress::Progress;
 const LONGEST_PATH: usize = 32;
 
 // What a node stands under; of a BLOCK, does it deduplicate?
-#[derive(Clone, Copy, Drop)]
+#[derive(Clone, Copy)]
 pub enum Parent {
     Nothing,
     Record,

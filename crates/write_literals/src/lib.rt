@@ -34,7 +34,7 @@ const NEXT: usize = 8192;
 const MOST: usize = 4096;
 
 // A literal that was met: its number among those of its key, and its first word.
-#[derive(Drop)]
+#[derive(Clone, Copy)]
 pub struct Met {
     pub number: usize,
     pub first: usize,

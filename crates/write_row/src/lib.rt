@@ -13,14 +13,14 @@ pub mod leaf;
 pub mod row;
 
 // How far the writing has come: the next row, and where the core's next byte goes. Or a refusal's number and second number.
-#[derive(Drop)]
+#[derive(Clone, Copy)]
 pub enum Progress {
     Done(usize, usize),
     Refused(u64, u64),
 }
 
 // What a pass does.
-#[derive(Drop)]
+#[derive(Clone, Copy)]
 pub struct Pass {
     // puts bytes into the output, or only counts them
     pub put: bool,
@@ -33,7 +33,7 @@ pub struct Pass {
 }
 
 // A value that is not there and has been written so, or that was refused; or the value is here, with a label in front or none.
-#[derive(Drop)]
+#[derive(Clone, Copy)]
 pub enum Opening {
     Gone(Progress),
     Here(bool),

@@ -8,27 +8,27 @@ ghost use Rattle.write_row.specs.Judged.{value_in, truth_of, front_of, word, Sma
 use label::words;
 use rows::{Seen, kind};
 
-#[derive(Drop)]
+#[derive(Clone, Copy)]
 pub enum Word {
     Is(u64),
     Not,
 }
 
-#[derive(Drop)]
+#[derive(Clone, Copy)]
 pub enum Truth {
     Is(bool),
     Not,
 }
 
 // Of a value that may be absent or null: which of them it is, or that it is here.
-#[derive(Drop)]
+#[derive(Clone, Copy)]
 pub enum Presence {
     Absent,
     Null,
     Here,
 }
 
-#[derive(Drop)]
+#[derive(Clone, Copy)]
 pub enum Front {
     Is(Presence),
     Not,

@@ -15,7 +15,7 @@ const SPAN: usize = 131072;
 const HALF: u64 = 4294967296;
 
 // The literal's number, or the two words to keep the text by.
-#[derive(Drop)]
+#[derive(Clone, Copy)]
 pub enum Found {
     Number(usize),
     Nothing(usize, usize),

@@ -12,7 +12,7 @@ use write_row::row::Word;
 use write_row::{Progress, row};
 
 // What holds one value alone: an array, or else a record.
-#[derive(Drop)]
+#[derive(Clone, Copy)]
 pub enum Holder {
     One(bool),
     Not,
@@ -20,7 +20,7 @@ pub enum Holder {
 
 // Where the first value stands that is no such record or array: its node, whether it may be absent, its row, and how far
 // the core goes. Or a refusal on the way.
-#[derive(Drop)]
+#[derive(Clone, Copy)]
 pub enum Descent {
     To(usize, bool, usize, usize),
     Stop(Progress),

@@ -9,7 +9,7 @@ use write_row::row::Word;
 use write_row::{Progress, row};
 
 // How many values it holds, the first one's row, and how far the core goes. Or its row is refused.
-#[derive(Drop)]
+#[derive(Clone, Copy)]
 pub enum Own {
     Values(u64, usize, usize),
     Stop(Progress),

@@ -11,7 +11,7 @@ use write_row::Progress;
 
 // The values to write: the first one's node, how many there are, whether the first may be absent, its row, and how far the
 // core goes. Or there are none: a record of no fields, done, or a row that is refused.
-#[derive(Drop)]
+#[derive(Clone, Copy)]
 pub enum Start {
     Values(usize, usize, bool, usize, usize),
     Whole(Progress),

@@ -17,7 +17,7 @@ use table::Answer;
 use write_row::{Pass, Progress};
 
 // So many bytes; or a refusal's number and second number.
-#[derive(Drop)]
+#[derive(Clone, Copy)]
 enum Size {
     Bytes(usize),
     Refused(u64, u64),
