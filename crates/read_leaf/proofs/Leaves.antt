@@ -1,13 +1,11 @@
 -- What was read, and then its row: for each kind of value that has nothing below it. Assumes nothing.
-use native.Mathlib.Omega.{arith}
-use denote.Enum.Declared.{tag_of}
-use types.Run.{OneOf}
+use mathlib.Core.Logic.{◌⊎◌}
 use mathlib.Core.Path.{◌≡◌, refl, ap, ◌∙◌}
 use mathlib.Core.Bool.{Bool, true, false}
 use mathlib.Core.Logic.{inl, inr}
 use mathlib.Core.List.{List, [], ◌∷◌}
 use mathlib.Core.Option.{Option}
-use Prim.Native.Nat.{ℕ, ◌≤◌}
+use Prim.Native.Nat.{ℕ}
 use lib.IntN.{ℤ, pos}
 use lib.ListN.{length, take, drop}
 use Rattle.format.specs.Answer.{Answer, ok, refuse, ◌>>=◌, ◌>>◌, need_at}
@@ -31,7 +29,6 @@ use Rattle.read_leaf.specs.State.{most_rows, Walks, Does, Took, Takes}
 use Rattle.read_leaf.specs.Does.{along, refuses}
 use Rattle.read_leaf.specs.Takes.{took-ready, took-inside, then-does, then-refuses}
 use Rattle.read_leaf.specs.Meaning.{front_of, label_of, part_of, number_of, part_refusal, number_refusal, held_leaf, text_row}
-use Rattle.table.specs.contracts.nodes.Leaf.{the_type}
 use Rattle.table.specs.declared.nodes.Leaf as code
 use Rattle.read_leaf.specs.Promises.{Owns, Bare, PutsRow, PutsPart, Boolean, Unlabelled, text_of}
 
@@ -141,19 +138,11 @@ module _ (m : List ℕ) (modes key : ℕ) (h : Held) (node : ℕ) (front : Optio
   unfolding leaf
   bytes-row e p = rw e (along (bind-then _ _ _ _ (λ x. refl)) (p.does m w w₁ _ (t.took (most_rows (length l)) n)))
 
--- a tag that is none of theirs
-no_text : (tag : ℕ) → OneOf (0 ∷ 3 ∷ []) tag → 1 ≤ tag → (tag ≡ 3 → ⊥) → ⊥
-no_text tag (inl q) a b = omega (arith, a)
-no_text tag (inr q) a b = b q
-
--- either of them: the tags are those of the code's `String` and `Bytes`
+-- either of them
 module _ (m : List ℕ) (modes key : ℕ) (h : Held) (node : ℕ) (front : Option ℤ) (w : List ℕ) (c : Cursor) (n : ℕ) {w₁ l l₁ : List ℕ} {r : Part} {s : Progress} (t : Takes m w w₁ c (part_of r) (text_of m modes h key front)) where
-  pub text-row : {kind : ℕ} (v : code.Leaf) → OneOf (0 ∷ 3 ∷ []) (tag_of the_type v) → kind ≡ text_row (held_leaf v) → PutsPart n kind node r l l₁ s → Walks m w w₁ c n l l₁ s (leaf (in_message m) modes (λ k. h) key (held_leaf v) node front)
-  text-row code.TheVariants.String k e p = string-row m modes key h node front w c n t refl (rw e at p)
-  text-row code.TheVariants.Bytes k e p = bytes-row m modes key h node front w c n t refl (rw e at p)
-  text-row code.TheVariants.Varint k e p = absurd (no_text 1 k (omega arith) (λ q. omega (arith, q)))
-  text-row code.TheVariants.Float64 k e p = absurd (no_text 2 k (omega arith) (λ q. omega (arith, q)))
-  text-row (code.TheVariants.Fixed size) k e p = absurd (no_text 4 k (omega arith) (λ q. omega (arith, q)))
+  pub text-row : {kind : ℕ} (v : code.Leaf) → (v ≡ code.TheVariants.String) ⊎ (v ≡ code.TheVariants.Bytes) → kind ≡ text_row (held_leaf v) → PutsPart n kind node r l l₁ s → Walks m w w₁ c n l l₁ s (leaf (in_message m) modes (λ k. h) key (held_leaf v) node front)
+  text-row v (inl x) e p = rw x (string-row m modes key h node front w c n t refl (rw (e, x) at p))
+  text-row v (inr x) e p = rw x (bytes-row m modes key h node front w c n t refl (rw (e, x) at p))
 
 pub unlabelled : {m : List ℕ} {modes key node : ℕ} {x y : Leaf} {front : Front} {w w₁ : List ℕ} {c : Cursor} {n : ℕ} {l l₁ : List ℕ} {s : Progress} (held : ℕ → Held) → x ≡ y → Unlabelled m modes key y node front w w₁ c n l l₁ s
     → Walks m w w₁ c n l l₁ s (leaf (in_message m) modes held key x node (front_of front))

@@ -1,6 +1,7 @@
 // Reading one value that has nothing below it: its label and its bytes, and the row that shows it. `node` is the one that
 // its row was read under, the topmost of the value.
 #![tactic(auto)]
+
 ghost use Rattle.std.specs.Prelude.{◌≡◌, ◌≤◌, ◌<◌};
 ghost use Rattle.format.specs.Read.{in_message, leaf as leaf_of};
 ghost use Rattle.format.specs.Table.{varint as varint_leaf, float64 as float_leaf, fixed as fixed_leaf};
