@@ -6,7 +6,7 @@ use mathlib.Core.Option.{none, some}
 use Prim.Native.Nat.{ℕ, ◌/◌, ◌%◌}
 use lib.IntN.{ℤ}
 use borrow.Author.Tests.{eq-eqb, ne_eqb}
-use Rattle.format.specs.Answer.{Answer, ok, refuse, ◌>>=◌, ◌>>◌, need_at}
+use Rattle.format.specs.Answer.{ok, refuse, ◌>>=◌, ◌>>◌, need_at}
 use Rattle.format.specs.Modes.{has, out_of_band_field_errors}
 use Rattle.format.specs.Read.{null_label, absent_label, error_label, is_label, is_null, own_label}
 use Rattle.label.specs.declared.cursor.Cursor.{Cursor}
@@ -21,7 +21,7 @@ use Rattle.read_walk.specs.declared.opening.Opening.TheVariants.{Read, Refused}
 use Rattle.read_walk.specs.declared.opening.Seen.{Seen}
 use Rattle.read_walk.specs.declared.opening.Seen.TheVariants.{Here}
 use Rattle.read_walk.specs.declared.opening.Meant as meant
-use Rattle.read_walk.specs.Opening.{Opened, gone, here, null_or, absent_or, labelled, opened, seen_of, meant_of, opened_of, Opens}
+use Rattle.read_walk.specs.Opening.{gone, here, null_or, absent_or, labelled, opened, seen_of, meant_of, Opens}
 
 pub errors-on : (modes : ℕ) → modes / 4 % 2 ≡ 1 → out_of_band_field_errors modes ≡ true
 unfolding has

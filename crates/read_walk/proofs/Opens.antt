@@ -3,10 +3,9 @@ use mathlib.Core.Path.{◌≡◌, refl}
 use mathlib.Core.Bool.{Bool, true, false, cond}
 use mathlib.Core.List.{List}
 use mathlib.Core.Option.{none, some}
-use Prim.Native.Nat.{ℕ, suc, ◌+◌, ◌≤◌}
+use Prim.Native.Nat.{ℕ}
 use lib.IntN.{ℤ}
-use borrow.Author.Tests.{le-leb}
-use Rattle.format.specs.Answer.{Answer, ok, refuse, ◌>>=◌, ◌>>◌, need_at}
+use Rattle.format.specs.Answer.{Answer, ok, refuse, ◌>>=◌}
 use Rattle.format.specs.Table.{Node, plain, nullable, Held, top_of, wire_of}
 use Rattle.format.specs.Row.{Place, Row, bare, null_row, absent_row}
 use Rattle.format.specs.Read.{in_message, State, absent_label, is_label, is_null, take_label, row_or, own_label, value, node, wire}

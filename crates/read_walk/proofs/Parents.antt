@@ -1,25 +1,23 @@
 -- The row of a record or an array, by what stands in front of it, what it holds, and whether there is a row left.
 use mathlib.Core.Path.{◌≡◌, refl, sym, ap, ◌∙◌, subst}
-use mathlib.Core.Bool.{Bool, true, false, not}
+use mathlib.Core.Bool.{Bool, true, false}
 use mathlib.Core.List.{List, [], ◌∷◌}
-use mathlib.Core.Option.{Option, some}
+use mathlib.Core.Option.{Option}
 use Prim.Native.Nat.{ℕ, ◌+◌, ◌-◌}
 use native.Mathlib.Omega.{arith}
-use lib.IntN.{ℤ, pos}
+use lib.IntN.{ℤ}
 use lib.ListN.{length}
 use Rattle.format.specs.Table.{node_at, RECORD, ARRAY}
 use Rattle.laws.specs.Facts.{absurd-bool}
 use Rattle.label.specs.declared.cursor.Cursor.{Cursor}
 use Rattle.label.specs.declared.cursor.Label as label
 use Rattle.read_pieces.specs.Pieces.{Inside}
-use Rattle.read_leaf.specs.declared.Progress.{Progress}
-use Rattle.read_leaf.specs.declared.Progress.TheVariants as step
 use Rattle.read_leaf.specs.declared.front.Front.{Front}
 use Rattle.read_leaf.specs.declared.front.Size.{Size}
 use Rattle.read_leaf.specs.declared.front.Size.TheVariants.{Of, Below}
 use Rattle.read_leaf.specs.declared.push.Put.{Put}
 use Rattle.read_leaf.specs.declared.push.Put.TheVariants.{Next, Full}
-use Rattle.read_leaf.specs.State.{most_rows, Ready}
+use Rattle.read_leaf.specs.State.{most_rows}
 use Rattle.read_leaf.specs.Meaning.{front_of, size_label}
 use Rattle.read_leaf.specs.Push.{put_of, put_in}
 use Rattle.read_leaf.specs.Promises.{Owns, Bare}
@@ -29,7 +27,6 @@ use Rattle.wire_types.specs.Run.{FitRun, run-entries, run-fields}
 use Rattle.read_walk.specs.declared.parent.Count as counted
 use Rattle.read_walk.specs.declared.parent.Parent.{Parent}
 use Rattle.read_walk.specs.declared.parent.Parent.TheVariants.{Made, Refused}
-use Rattle.read_walk.specs.Walk.{ReadsWire, ReadsValues}
 use Rattle.read_walk.specs.Parent.{parent_kind, parent_row, parent_by, count_refusal, refusal_of, Holds, Wrong, Counts, HasRow, HasNoRow, MakesRow}
 use Rattle.read_walk.proofs.Steps.{record-24, record-31, record-then, record-fits, array-23, array-24, array-31, array-then, own-inside}
 
@@ -72,10 +69,10 @@ module _ (table m : List ℕ) (node : ℕ) (b : Bool) (front : Front) (c : Curso
     is-record : (node_at table node).kind ≡ RECORD
     is-record = k ∙ ap parent_kind e
 
-    pub record-labelled : not bare ≡ true → Wrong table m node b (front_of front) c 24
+    pub record-labelled : bare ≡ false → Wrong table m node b (front_of front) c 24
     record-labelled v = record { refused = λ w l l₁ n modes top g. record-24 table m w l modes node top n front c is-record bare x v }
 
-    pub record-holds : {count : ℕ} → Inside m c → not bare ≡ false → count ≡ (node_at table node).argument → Holds table m node b (front_of front) c count c
+    pub record-holds : {count : ℕ} → Inside m c → bare ≡ true → count ≡ (node_at table node).argument → Holds table m node b (front_of front) c count c
     record-holds {count} i v d = rw e (record {
       inside = λ w g. i;
       fields = λ z. d;

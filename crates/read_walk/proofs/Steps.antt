@@ -1,18 +1,16 @@
 -- What the functions of the walk have done once what they call has done its part.
 use mathlib.Core.Path.{◌≡◌, refl, sym, ap, ◌∙◌, subst}
-use mathlib.Core.Bool.{Bool, true, false, not}
+use mathlib.Core.Bool.{Bool, true, false}
 use mathlib.Core.List.{List, [], ◌∷◌}
-use Prim.Native.Nat.{ℕ, suc, ◌+◌, ◌-◌, ◌≤◌}
-use native.Mathlib.Omega.{arith}
+use Prim.Native.Nat.{ℕ, ◌+◌, ◌-◌, ◌≤◌}
 use lib.Dec.{eqb}
 use lib.IntN.{ℤ}
 use lib.ListN.{length}
-use borrow.Author.Tests.{not-true, not-false}
 use Rattle.format.specs.Answer.{Answer, ok, ◌>>=◌, ◌>>◌, need_at}
-use Rattle.format.specs.Table.{u16, node_at, deduplicate, NULLABLE, BOOLEAN, RECORD, ARRAY, BLOCK, Node, Fields, Leaf, leaf_of, top_of, wire_of}
+use Rattle.format.specs.Table.{u16, node_at, deduplicate, NULLABLE, BOOLEAN, RECORD, ARRAY, BLOCK, Node, Fields, leaf_of, top_of, wire_of}
 use Rattle.format.specs.Row.{Place, Row, row, bare, says_words, row_words, record_row, array_row}
 use Rattle.format.specs.Read.{in_message, State, own_label, count_of, take_row, entries, wire, all, leaf, field_count}
-use Rattle.laws.specs.Tree.{depth_wire, depth, depth_fields, HasFields}
+use Rattle.laws.specs.Tree.{depth_wire, HasFields}
 use Rattle.laws.specs.Kinds.{top-is, by-boolean, by-record, by-array, by-block}
 use Rattle.table.specs.Held.{leaf_in, leaf-held, dedup-held}
 use Rattle.label.specs.declared.cursor.Cursor.{Cursor}
@@ -101,19 +99,19 @@ module _ (table m w l : List ℕ) (modes node top n : ℕ) (front : Front) (c : 
         (λ ws t a g. along (ap (λ y. y >> (take_row (in_message m) (state_of m (most_rows (length l)) w c n) >>= (λ s. all (in_message m) modes (held_in table) ws s >>= (λ y. ok (row top (bare record_row (field_count ws)) ∷ y.0, y.1))))) (x.is m)) (f ws a g));
   }
 
-  pub record-24 : {l' : List ℕ} → not b ≡ true → ReadsWire m w w l l' c n (Refused 24) table modes node top (front_of front)
+  pub record-24 : {l' : List ℕ} → b ≡ false → ReadsWire m w w l l' c n (Refused 24) table modes node top (front_of front)
   unfolding need_at ◌>>◌
-  record-24 e = record-by (λ ws a g. rw (not-true b e) (refuses 24))
+  record-24 e = record-by (λ ws a g. rw e (refuses 24))
 
-  module _ (e : not b ≡ false) (q : Put) (h : q ≡ put_of (most_rows (length l)) n) where
+  module _ (e : b ≡ true) (q : Put) (h : q ≡ put_of (most_rows (length l)) n) where
     pub record-31 : {l' : List ℕ} → q ≡ Full → ReadsWire m w w l l' c n (Refused 31) table modes node top (front_of front)
     unfolding need_at ◌>>◌
-    record-31 z = record-by (λ ws a g. rw (not-false b e) (push-not c _ h z))
+    record-31 z = record-by (λ ws a g. rw e (push-not c _ h z))
 
     pub record-then : {count next : ℕ} {w' l₁ l₂ : List ℕ} {r : Progress} → count ≡ (node_at table node).argument → l₁ ≡ put_in (most_rows (length l)) l n (9 ∷ count ∷ 0 ∷ top ∷ []) → q ≡ Next next → length l₁ ≡ length l
         → ReadsFields m w w' l₁ l₂ c next r table modes (node + 1) count → ReadsWire m w w' l l₂ c n r table modes node top (front_of front)
     unfolding need_at ◌>>◌ row_words says_words
-    record-then {count} {next} {w'} {l₁} {l₂} {r} u s z y v = record-by (λ ws a g. rw (not-false b e)
+    record-then {count} {next} {w'} {l₁} {l₂} {r} u s z y v = record-by (λ ws a g. rw e
         (pushes (row top (bare record_row (field_count ws))) (all (in_message m) modes (held_in table) ws) h s z (ap (λ j. 9 ∷ j ∷ 0 ∷ top ∷ []) (sym (u ∙ a)))
         (subst (λ j. Does m (most_rows j) w w' next l₁ l₂ r (all (in_message m) modes (held_in table) ws (state_of m (most_rows j) w c next))) y (v.does ws g (sym (u ∙ a))))))
 

@@ -1,5 +1,5 @@
 -- A record or an array: what it holds, and its row.
-use Rattle.std.specs.Prelude.{◌≡◌, Bool, true, false, cond, List, [], ◌∷◌, ℕ, ◌+◌, ℤ, length}
+use Rattle.std.specs.Prelude.{◌≡◌, Bool, false, cond, List, [], ◌∷◌, ℕ, ◌+◌, ℤ, length}
 use Rattle.std.proofs.Math.Option.{Option}
 use Rattle.format.specs.Table.{node_at, RECORD, ARRAY}
 use Rattle.format.specs.Row.{record_row, array_row}

@@ -1,9 +1,8 @@
 -- What each function of the walk has done: what the definition answers for the type that the table has at its node.
-use Rattle.std.specs.Prelude.{◌≡◌, Bool, true, false, List, ℕ, ◌+◌, ◌≤◌, ℤ}
+use Rattle.std.specs.Prelude.{◌≡◌, Bool, true, false, List, ℕ, ℤ}
 use Rattle.std.proofs.Math.Option.{Option}
 use Rattle.format.specs.Table.{Wire, Node, Fields}
 use Rattle.format.specs.Read.{in_message, entries, wire, all, field_count}
-use Rattle.laws.specs.Tree.{depth_wire, depth, depth_fields}
 use Rattle.label.specs.declared.cursor.Cursor.{Cursor}
 use Rattle.read_leaf.specs.declared.Progress.{Progress}
 use Rattle.read_leaf.specs.declared.Progress.TheVariants.{Done, Refused}
