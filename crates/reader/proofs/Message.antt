@@ -1,13 +1,13 @@
 -- The answers for a whole message, one after another.
 use mathlib.Core.Path.{◌≡◌, refl, sym, ap, ◌∙◌, subst}
-use mathlib.Core.Bool.{Bool, true, false, not, and-eq-true_iff}
+use mathlib.Core.Bool.{Bool, true, false, and-eq-true_iff}
 use mathlib.Core.List.{List, []}
 use Prim.Native.Nat.{ℕ, ◌+◌, ◌≤◌}
 use native.Mathlib.Omega.{arith}
 use lib.Dec.{leb}
 use lib.ListN.{length, get_or}
 use lib.Seq.{sets}
-use borrow.Author.Tests.{not-true, not-false, leb-true}
+use borrow.Author.Tests.{leb-true}
 use Rattle.format.specs.Answer.{Answer, ok, refuse, ◌>>=◌, ◌>>◌, need, need_at}
 use Rattle.format.specs.Modes.{inline_everything, read_header}
 use Rattle.format.specs.Row.{Place, Row, words}
@@ -23,7 +23,7 @@ use Rattle.read_leaf.specs.State.{most_rows, Ready, cursor_of, state_of, Does}
 use Rattle.read_leaf.specs.Does.{done-ready, done-inside}
 use Rattle.wire_types.specs.Typed.{Sized, held_in, FitsNode, Kept}
 use Rattle.wire_types.specs.Nodes.{node_kept}
-use Rattle.wire_types.specs.Root.{kept-sized, kept-held, kept-deep, kept-root, kept-fits, kept-still}
+use Rattle.wire_types.specs.Root.{kept-sized, kept-held, kept-root, kept-fits, kept-still}
 use Rattle.read_walk.specs.Walk.{ReadsValue}
 use Rattle.read_walk.specs.Opening.{value_at}
 use Rattle.reader.specs.declared.Begun as begun
@@ -83,25 +83,25 @@ module _ (table m w l : List ℕ) (k : Kept table w) where
       go (ok p) = refl
       go (refuse e i) = refl
 
-  pub rows-20 : (b : Bool) → b ≡ is_sized m → not b ≡ true → Gives table l l w (Refused 20) answer
+  pub rows-20 : (b : Bool) → b ≡ is_sized m → b ≡ false → Gives table l l w (Refused 20) answer
   unfolding read_checked is_sized need_at ◌>>◌
-  rows-20 b e q = (answer-is ∙ rw (sym e ∙ not-true b q) refl, k)
+  rows-20 b e q = (answer-is ∙ rw (sym e ∙ q) refl, k)
 
   -- the bytes are as many as there may be
-  module _ (b : Bool) (e₁ : b ≡ is_sized m) (q₁ : not b ≡ false) where
+  module _ (b : Bool) (e₁ : b ≡ is_sized m) (q₁ : b ≡ true) where
     pub sized-is : (1 ≤ length m) × (length m ≤ 65536)
     unfolding is_sized
-    sized-is = let p = (and-eq-true_iff (leb 1 (length m)) (leb (length m) 65536)).0 (sym e₁ ∙ not-false b q₁) in (leb-true _ _ p.0, leb-true _ _ p.1)
+    sized-is = let p = (and-eq-true_iff (leb 1 (length m)) (leb (length m) 65536)).0 (sym e₁ ∙ q₁) in (leb-true _ _ p.0, leb-true _ _ p.1)
 
     module _ (h : header.Header) (e₂ : header_of h ≡ read_header (get_or m 0 0)) where
       pub rows-21 : h ≡ header.TheVariants.Other → Gives table l l w (Refused 21) answer
       unfolding read_checked is_sized need_at ◌>>◌ ◌>>=◌
-      rows-21 q = (answer-is ∙ rw (sym e₁ ∙ not-false b q₁, sym e₂ ∙ ap header_of q) refl, k)
+      rows-21 q = (answer-is ∙ rw (sym e₁ ∙ q₁, sym e₂ ∙ ap header_of q) refl, k)
 
       module _ {modes : ℕ} (q₂ : h ≡ header.TheVariants.Modes modes) where
         from_start : answer ≡ (start m modes most >>= (λ s. walk (in_message m) modes k.schema.held k.schema.root s >>= finish))
         unfolding read_checked is_sized need_at finish ◌>>◌ ◌>>=◌
-        from_start = answer-is ∙ rw (sym e₁ ∙ not-false b q₁, sym e₂ ∙ ap header_of q₂) (start-then modes (λ s. walk (in_message m) modes k.schema.held k.schema.root s >>= finish))
+        from_start = answer-is ∙ rw (sym e₁ ∙ q₁, sym e₂ ∙ ap header_of q₂) (start-then modes (λ s. walk (in_message m) modes k.schema.held k.schema.root s >>= finish))
 
         module _ {w₁ : List ℕ} (y : begun.Begun) (x : Begins m modes w w₁ y) (n₁ : length w₁ ≡ length w) where
           pub rows-22 : y ≡ begun.TheVariants.Bad → Gives table l l w₁ (Refused 22) answer
@@ -148,15 +148,15 @@ module _ (table m w l : List ℕ) (k : Kept table w) where
                   told : is_done (in_message m) (state_of m most w₂ end n) ≡ d
                   told = z.is m most n end-ready (done-inside _ root_does q₄)
 
-                  pub rows-30 : not d ≡ true → Gives table l l₂ w₂ (Refused 30) answer
+                  pub rows-30 : d ≡ false → Gives table l l₂ w₂ (Refused 30) answer
                   unfolding finish need_at ◌>>◌ ◌>>=◌
-                  rows-30 q = (from-root ∙ rw (ended.is, told ∙ not-true d q) refl, kept_then)
+                  rows-30 q = (from-root ∙ rw (ended.is, told ∙ q) refl, kept_then)
 
-                  pub rows_are : not d ≡ false → Gives table l l₂ w₂ (Done end n) answer
+                  pub rows_are : d ≡ true → Gives table l l₂ w₂ (Done end n) answer
                   unfolding finish need_at ◌>>◌ ◌>>=◌
                   rows_are q = (
                     ended.rows,
-                    from-root ∙ rw (ended.is, told ∙ not-false d q) refl,
+                    from-root ∙ rw (ended.is, told ∙ q) refl,
                     ended.count,
                     ended.stored,
                     omega (arith, ended.room),

@@ -1,5 +1,6 @@
 // Reading a message into rows.
 #![tactic(auto)]
+
 ghost use Rattle.std.specs.Prelude.{◌≡◌, ◌<◌, ◌≤◌, ◌^◌, length};
 ghost use Rattle.format.specs.Answer.{number, second, output, zeros};
 ghost use Rattle.format.specs.Row.{words};
