@@ -1,12 +1,11 @@
 -- The label in front of a value, and the value behind it: a whole row.
 use mathlib.Core.Path.{◌≡◌, refl, sym, subst}
-use mathlib.Core.Bool.{Bool, true, false, not}
+use mathlib.Core.Bool.{Bool, true, false}
 use mathlib.Core.List.{List}
 use Prim.Native.Nat.{ℕ, ◌+◌, ◌≤◌}
 use native.Mathlib.Omega.{arith}
 use lib.IntN.{pos}
 use lib.ListN.{length}
-use borrow.Author.Tests.{not-true, not-false}
 use Rattle.format.specs.Answer.{Answer, ok, refuse, ◌>>=◌}
 use Rattle.format.specs.Label.{label}
 use Rattle.format.specs.Table.{Held}
@@ -30,13 +29,13 @@ pub near-done : (core : ℕ) {c : ℕ} {r : Put} → Near core r → r ≡ To c 
 near-done core n q = subst (λ (r : Put). Near core r) q n
 
 module _ {put labelled : Bool} {out : List ℕ} {core : ℕ} where
-  pub front-none : not labelled ≡ true → Fronts put labelled out out core (To core) × Near core (To core)
+  pub front-none : labelled ≡ false → Fronts put labelled out out core (To core) × Near core (To core)
   unfolding unlabelled emit_front
-  front-none b = (rw (not-true labelled b) (record { emits = λ w. record { does = λ pool g. does-ok g (same_self w) } }), omega arith)
+  front-none b = (rw b (record { emits = λ w. record { does = λ pool g. does-ok g (same_self w) } }), omega arith)
 
-  pub front-zero : {out' : List ℕ} {r : Put} → not labelled ≡ false → Puts put core (label (pos 0)) out out' r → Fronts put labelled out out' core r × Near core r
+  pub front-zero : {out' : List ℕ} {r : Put} → labelled ≡ true → Puts put core (label (pos 0)) out out' r → Fronts put labelled out out' core r × Near core r
   unfolding unlabelled emit_front
-  front-zero {out'} {r} b d = (rw (not-false labelled b) (record { emits = λ w. core-emits put w d }), near core (core + length (label (pos 0))) r (put_bytes put core (label (pos 0)) out) d.answer (omega (arith, label-most (pos 0))))
+  front-zero {out'} {r} b d = (rw b (record { emits = λ w. core-emits put w d }), near core (core + length (label (pos 0))) r (put_bytes put core (label (pos 0)) out) d.answer (omega (arith, label-most (pos 0))))
 
 row_is : (put : Bool) (modes : ℕ) (held : ℕ → Held) (labelled : Bool) (b : Body) (p : Plan)
     → emit_event put modes held (unlabelled labelled b) p ≡ (emit_front put (unlabelled labelled nothing).front p >>= (λ q. emit_body put modes held b q))

@@ -1,6 +1,6 @@
 -- Bytes stored one by one, and the 00 behind a part.
 use mathlib.Core.Path.{◌≡◌, sym, ap, ◌∙◌}
-use mathlib.Core.Bool.{Bool, true, false, not}
+use mathlib.Core.Bool.{Bool, true, false}
 use mathlib.Core.List.{List, [], ◌∷◌, ◌++◌}
 use Prim.Native.Nat.{ℕ, suc, ◌+◌, ◌-◌, ◌/◌, ◌%◌, ◌<◌, ◌≤◌}
 use native.Mathlib.Nat.{add-suc}
@@ -9,7 +9,6 @@ use native.Mathlib.Omega.{arith}
 use lib.ListN.{length, length-append, get_or, set, drop, drop_of_length-le}
 use lib.Seq.{sets, drop-cons}
 use Rattle.format.specs.Row.{Place, bytes_at}
-use borrow.Author.Tests.{not-true, not-false}
 use Rattle.format.specs.Read.{ending}
 use Rattle.format.specs.Write.{little_endian_bytes}
 use Rattle.laws.specs.Lists.{sets-append}
@@ -47,18 +46,18 @@ module _ (out : List ℕ) (at : ℕ) (v i : ℕ) where
 -- ---- the 00 behind a part, where it is ended by one
 
 module _ (ended : Bool) where
-  pub one-ending : not ended ≡ false → length (ending ended) ≡ 1
+  pub one-ending : ended ≡ true → length (ending ended) ≡ 1
   unfolding ending
-  one-ending b = rw (not-false ended b)
+  one-ending b = rw b
 
   module _ (out : List ℕ) (at : ℕ) where
-    pub no-ending : not ended ≡ true → out ≡ sets out at (ending ended)
+    pub no-ending : ended ≡ false → out ≡ sets out at (ending ended)
     unfolding ending
-    no-ending b = rw (not-true ended b)
+    no-ending b = rw b
 
-    pub an-ending : not ended ≡ false → set out at 0 ≡ sets out at (ending ended)
+    pub an-ending : ended ≡ true → set out at 0 ≡ sets out at (ending ended)
     unfolding ending
-    an-ending b = rw (not-false ended b)
+    an-ending b = rw b
 
   module _ (pool : List ℕ) (p : Place) (inside : p.start + p.size ≤ length pool) where
     pub ended-length : {n : ℕ} → n ≡ p.size + length (ending ended) → length (bytes_at pool p ++ ending ended) ≡ n

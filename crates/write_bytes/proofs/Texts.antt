@@ -1,6 +1,6 @@
 -- Texts: what is kept of a literal, and the two ways to write a text.
 use mathlib.Core.Path.{◌≡◌, refl, sym, ap, subst, ◌∙◌}
-use mathlib.Core.Bool.{Bool, true, false, not}
+use mathlib.Core.Bool.{Bool, true, false}
 use mathlib.Core.List.{List, [], ◌∷◌, ◌++◌, map, map-append}
 use mathlib.Core.Option.{Option, none, some}
 use Prim.Native.Nat.{ℕ, zero, suc, ◌+◌, ◌<◌, ◌≤◌}
@@ -8,7 +8,7 @@ use native.Mathlib.Omega.{arith}
 use lib.Dec.{eqb}
 use lib.IntN.{pos}
 use lib.ListN.{length, get_or, length-map, get_or-map}
-use borrow.Author.Tests.{lt-ltb, le-ltb, eqb-true, eqb-false, not-true, not-false}
+use borrow.Author.Tests.{lt-ltb, le-ltb, eqb-true, eqb-false}
 use Rattle.format.specs.Answer.{Answer, ok, refuse, ◌>>=◌}
 use Rattle.format.specs.Label.{label}
 use Rattle.format.specs.Table.{Held}
@@ -44,17 +44,17 @@ module _ (k : ℕ) (x : Literal) (s : Store) where
   kept_more h = rw (lt-ltb _ _ h, kept)
 
 module _ (numbered : Bool) (k : ℕ) (x : Literal) {w : List ℕ} where
-  pub keeps-none : not numbered ≡ true → Good w → Changes w w (kept numbered k x)
+  pub keeps-none : numbered ≡ false → Good w → Changes w w (kept numbered k x)
   unfolding kept
-  keeps-none b g = rw (not-true numbered b) (record { good = g; store = refl; size = refl; outside = λ i h. refl })
+  keeps-none b g = rw b (record { good = g; store = refl; size = refl; outside = λ i h. refl })
 
-  keeps-by : {w' : List ℕ} {f : Store → Store} → not numbered ≡ false → kept true k x (store_of w) ≡ f (store_of w) → Changes w w' f → Changes w w' (kept numbered k x)
-  keeps-by b e c = rw (not-false numbered b) (record { good = c.good; store = c.store ∙ sym e; size = c.size; outside = c.outside })
+  keeps-by : {w' : List ℕ} {f : Store → Store} → numbered ≡ true → kept true k x (store_of w) ≡ f (store_of w) → Changes w w' f → Changes w w' (kept numbered k x)
+  keeps-by b e c = rw b (record { good = c.good; store = c.store ∙ sym e; size = c.size; outside = c.outside })
 
-  pub keeps-over : {w' : List ℕ} → not numbered ≡ false → 4096 ≤ total (store_of w).literals → Changes w w' overfull → Changes w w' (kept numbered k x)
+  pub keeps-over : {w' : List ℕ} → numbered ≡ true → 4096 ≤ total (store_of w).literals → Changes w w' overfull → Changes w w' (kept numbered k x)
   keeps-over b h c = keeps-by b (kept-over k x (store_of w) h) c
 
-  pub keeps-more : {w' : List ℕ} → not numbered ≡ false → total (store_of w).literals < 4096 → Changes w w' (added k x) → Changes w w' (kept numbered k x)
+  pub keeps-more : {w' : List ℕ} → numbered ≡ true → total (store_of w).literals < 4096 → Changes w w' (added k x) → Changes w w' (kept numbered k x)
   keeps-more b h c = keeps-by b (kept_more k x (store_of w) h) c
 
 -- the literals as texts
@@ -163,16 +163,16 @@ module _ (put inline numbered ended : Bool) (k core : ℕ) {pool w out : List �
 -- ---- a text
 
 module _ (numbered : Bool) (v : Text) (l : List Text) where
-  pub choose-not : not numbered ≡ true → none ≡ choose numbered v l
+  pub choose-not : numbered ≡ false → none ≡ choose numbered v l
   unfolding choose
-  choose-not b = rw (not-true numbered b)
+  choose-not b = rw b
 
-  pub choose-so : {o : Option ℕ} → not numbered ≡ false → o ≡ first_equal v l → o ≡ choose numbered v l
+  pub choose-so : {o : Option ℕ} → numbered ≡ true → o ≡ first_equal v l → o ≡ choose numbered v l
   unfolding choose
-  choose-so b e = rw (not-false numbered b) e
+  choose-so b e = rw b e
 
-pub not-numbered : {numbered : Bool} {P : Type 0} → not numbered ≡ true → numbered ≡ true → P
-not-numbered {numbered} b n = absurd-bool (sym (not-true numbered b) ∙ n)
+pub not-numbered : {numbered : Bool} {P : Type 0} → numbered ≡ false → numbered ≡ true → P
+not-numbered {numbered} b n = absurd-bool (sym b ∙ n)
 
 pub found-small : {f f' : Found} → InWords f → f ≡ f' → InWords f'
 found-small h q = subst (λ (f : Found). InWords f) q h

@@ -1,6 +1,6 @@
 -- Laws of what a step has done: one step after another, and what a caller learns of one.
 use Rattle.std.specs.Prelude.{◌≡◌, refl, Bool, List, ℕ, ◌+◌, ℤ, length}
-use Rattle.std.proofs.Common.{sym, ap, ◌∙◌, arith}
+use Rattle.std.proofs.Common.{sym, ap, ◌∙◌}
 use Rattle.format.specs.Answer.{Answer, ok, refuse, ◌>>=◌}
 use Rattle.format.specs.Label.{label}
 use Rattle.format.specs.Write.{mark}
