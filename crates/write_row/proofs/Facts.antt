@@ -7,8 +7,6 @@ use Prim.Native.Nat.{ℕ, zero, suc, ◌+◌, ◌^◌, ◌<◌, ◌≤◌}
 use native.Mathlib.Omega.{arith}
 use lib.IntN.{ℤ, pos}
 use native.Mathlib.Nat.{zero-add, suc-add}
-use denote.Enum.Declared.{tag_of}
-use types.Run.{OneOf, miss}
 use lib.ListN.{length, take, drop, length-take, length-drop}
 use lib.Seq.{slice, take-nil}
 use Rattle.format.specs.Answer.{Answer, ok, refuse, ◌>>=◌}
@@ -29,7 +27,6 @@ use Rattle.write_bytes.specs.State.{plan_of, Within, EmitsEvent, Puts}
 use Rattle.write_bytes.specs.Text.{EmitsText}
 use Rattle.write_bytes.specs.Does.{mark-emits}
 use Rattle.table.specs.declared.nodes.Leaf as code
-use Rattle.table.specs.contracts.nodes.Leaf.{the_type}
 use Rattle.write_row.specs.declared.Progress.{Progress}
 use Rattle.write_row.specs.declared.Progress.TheVariants.{Done, Refused}
 use Rattle.write_row.specs.declared.Pass.{Pass}
@@ -238,24 +235,23 @@ module _ {put : Bool} {pool rows out out' : List ℕ} {i core : ℕ} (node : ℕ
 
 -- ---- by what the key holds
 
--- the tags are those of all but the code's `String`
-pub not-judged : (l : code.Leaf) → OneOf (1 ∷ 2 ∷ 3 ∷ 4 ∷ []) (tag_of the_type l) → false ≡ is_judged l
-not-judged code.TheVariants.String h = absurd (miss (1 ∷ 2 ∷ 3 ∷ 4 ∷ []) 0 tt h)
+pub not-judged : (l : code.Leaf) → (l ≡ code.TheVariants.String → ⊥) → false ≡ is_judged l
+not-judged code.TheVariants.String h = absurd (h refl)
 not-judged code.TheVariants.Varint h = refl
 not-judged code.TheVariants.Float64 h = refl
 not-judged code.TheVariants.Bytes h = refl
 not-judged (code.TheVariants.Fixed n) h = refl
 
 module _ {how : Pass} {pool rows out w out' w' : List ℕ} {core k : ℕ} {r : Progress} {numbered : Bool} (node i : ℕ) (labelled : Bool) where
-  -- the tags are those of the code's `String` and `Bytes`
-  pub held-text : {b : Bool} (l : code.Leaf) → OneOf (0 ∷ 3 ∷ []) (tag_of the_type l) → b ≡ is_judged l → WritesText how numbered (b && how.ends) k pool rows out w core out' w' r (fit_leaf k (text_leaf b) node false (rest_of pool rows i))
+  -- one of the two that hold texts
+  pub held-text : {b : Bool} (l : code.Leaf) → (l ≡ code.TheVariants.Varint → ⊥) → (l ≡ code.TheVariants.Float64 → ⊥) → ((n : ℕ) → l ≡ code.TheVariants.Fixed n → ⊥) → b ≡ is_judged l → WritesText how numbered (b && how.ends) k pool rows out w core out' w' r (fit_leaf k (text_leaf b) node false (rest_of pool rows i))
       → WritesText how numbered (is_judged l && how.ends) k pool rows out w core out' w' r (fit_leaf k (leaf_of l) node labelled (rest_of pool rows i))
   unfolding leaf_of fit_leaf
-  held-text code.TheVariants.String h q d = rw q at d
-  held-text code.TheVariants.Varint h q d = absurd (miss (0 ∷ 3 ∷ []) 1 tt h)
-  held-text code.TheVariants.Float64 h q d = absurd (miss (0 ∷ 3 ∷ []) 2 tt h)
-  held-text code.TheVariants.Bytes h q d = rw q at d
-  held-text (code.TheVariants.Fixed n) h q d = absurd (miss (0 ∷ 3 ∷ []) 4 tt h)
+  held-text code.TheVariants.String v f x q d = rw q at d
+  held-text code.TheVariants.Varint v f x q d = absurd (v refl)
+  held-text code.TheVariants.Float64 v f x q d = absurd (f refl)
+  held-text code.TheVariants.Bytes v f x q d = rw q at d
+  held-text (code.TheVariants.Fixed n) v f x q d = absurd (x n refl)
 
   pub held-value : {ended : Bool} {l l₁ : code.Leaf} → l ≡ l₁ → WritesValue how pool rows out w core out' w' r (fit_leaf k (leaf_of l₁) node labelled (rest_of pool rows i))
       → WritesText how numbered ended k pool rows out w core out' w' r (fit_leaf k (leaf_of l) node labelled (rest_of pool rows i))

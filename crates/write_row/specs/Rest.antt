@@ -7,7 +7,7 @@ use Prim.Native.Nat.{ℕ, zero, suc, ◌+◌, ◌-◌}
 use Rattle.std.proofs.Common.{add-one, arith}
 use borrow.Author.Tests.{lt-ltb, le-ltb}
 use Rattle.format.specs.Answer.{Answer, ok, refuse, ◌>>=◌, ◌>>◌, need_at, or_refuse}
-use Rattle.format.specs.Row.{Says, Place, Text, row, row_count, row_node, under, row_at, is_inside, found, says_of, cell_of, shown_at, shown_from}
+use Rattle.format.specs.Row.{Says, Place, Text, row_count, row_node, under, row_at, is_inside, found, says_of, cell_of, shown_at, shown_from}
 use Rattle.format.specs.Write.{Rest, next_in, next}
 use Rattle.laws.specs.Facts.{by_bool}
 use Rattle.rows.specs.Seen.{found_under}

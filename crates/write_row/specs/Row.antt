@@ -13,7 +13,7 @@ use Rattle.write_passes.specs.Moves.{body_size, within-event}
 use Rattle.write_passes.specs.Moves as moves
 use Rattle.write_bytes.specs.declared.Put.{Put}
 use Rattle.write_bytes.specs.declared.Put.TheVariants.{To, Full}
-use Rattle.write_bytes.specs.State.{plan_of, Within, Does}
+use Rattle.write_bytes.specs.State.{plan_of, Does}
 use Rattle.write_bytes.specs.Does.{does-done, does-refused}
 use Rattle.table.specs.declared.nodes.Leaf as code
 use Rattle.wire_types.specs.Typed.{is_nullable}

@@ -1,5 +1,6 @@
 // One row of the tree that is to be written: judged against the table, and then counted or put into the message.
 #![tactic(auto)]
+
 ghost use Rattle.std.specs.Prelude.{◌≡◌, ◌+◌, ◌<◌, ◌≤◌, ◌^◌};
 ghost use Rattle.write_row.specs.Rest.{rest_of};
 ghost use Rattle.write_row.specs.Opens.{fit_truth, fit_record};
