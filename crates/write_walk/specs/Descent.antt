@@ -1,5 +1,5 @@
 -- A value that one record of one field or one array of one entry holds after another: what is written of the inner one is all that is left of the outer.
-use Rattle.std.specs.Prelude.{◌≡◌, Bool, true, false, List, ℕ, ◌+◌}
+use Rattle.std.specs.Prelude.{◌≡◌, Bool, true, false, List, ℕ}
 use Rattle.std.proofs.Math.Option.{some}
 use Rattle.format.specs.Table.{node_at, RECORD, ARRAY}
 use Rattle.format.specs.Row.{record_row, array_row}

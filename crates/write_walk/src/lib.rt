@@ -1,6 +1,7 @@
 // One pass over the rows, along the nodes of a checked table: a value asks for its fields or its entries, and those may be
 // records and arrays again.
 #![tactic(auto)]
+
 ghost use Rattle.std.specs.Prelude.{◌≡◌, false, ◌+◌, ◌*◌, ◌≤◌, ◌<◌, ◌^◌, length};
 ghost use Rattle.format.specs.Table.{node_at, RECORD, ARRAY, BLOCK};
 ghost use Rattle.wire_types.specs.Typed.{Sized, FitsNode, FitsWire};
