@@ -1,5 +1,6 @@
 // Writing rows as a message.
 #![tactic(auto)]
+
 ghost use Rattle.std.specs.Prelude.{◌≡◌, ◌+◌, ◌≤◌, ◌<◌, ◌^◌, length};
 ghost use Rattle.format.specs.Answer.{number, second, output, zeros};
 ghost use Rattle.format.specs.Modes.{inline_everything};
