@@ -1,6 +1,7 @@
-// The C interface (include/argo.h). A slice is a pointer and a length; where the library answers an enum or a part of the
-// lent bytes, these functions answer the words or the place.
+// The calls as C has them (include/argo.h): where the library answers an enum or a part of the lent bytes, these functions
+// answer the words or the place. argo_c exports them under the same names.
 #![tactic(auto)]
+
 ghost use Rattle.std.specs.Prelude.{◌≡◌, length};
 ghost use Rattle.format.specs.Answer.{ok, refuse, number, second, output, zeros};
 ghost use Rattle.format.specs.Table.{check};
@@ -45,8 +46,7 @@ pub struct Place {
 }
 
 // Checks a table.
-#[unsafe(no_mangle)]
-pub extern "C" fn argo_check(table: &[u8], work: &mut [u32]) -> Answer
+pub fn argo_check(table: &[u8], work: &mut [u32]) -> Answer
     ensures number_value { result.number ≡ number (check (length work.old) table.now) }
     ensures second_value { result.second ≡ second (λ s. s.count) (check (length work.old) table.now) }
     ensures work_after { work.new ≡ zeros (length work.old) }
@@ -59,13 +59,7 @@ pub extern "C" fn argo_check(table: &[u8], work: &mut [u32]) -> Answer
 }
 
 // Reads a message into rows.
-#[unsafe(no_mangle)]
-pub extern "C" fn argo_read(
-    table: &[u8],
-    message: &[u8],
-    rows: &mut [u64],
-    work: &mut [u32],
-) -> Answer
+pub fn argo_read(table: &[u8], message: &[u8], rows: &mut [u64], work: &mut [u32]) -> Answer
     ensures number_value { result.number ≡ number (read (length work.old) table.now message.now (length rows.old)) }
     ensures second_value { result.second ≡ second (λ rs. length rs) (read (length work.old) table.now message.now (length rows.old)) }
     ensures rows_after { rows.new ≡ output words_of (length rows.old) (read (length work.old) table.now message.now (length rows.old)) }
@@ -79,8 +73,7 @@ pub extern "C" fn argo_read(
 }
 
 // Writes rows as a message.
-#[unsafe(no_mangle)]
-pub extern "C" fn argo_write(
+pub fn argo_write(
     table: &[u8],
     modes: u64,
     rows: &[u64],
@@ -154,16 +147,14 @@ fn shown(s: rows::Seen, node: u64) -> Seen
 }
 
 // Looks at one row, whose place, if it has one, is in bytes.
-#[unsafe(no_mangle)]
-pub extern "C" fn argo_look(rows: &[u64], bytes: &[u8], index: usize) -> Seen
+pub fn argo_look(rows: &[u64], bytes: &[u8], index: usize) -> Seen
     ensures { Shows result (look rows.now (length bytes.now) index) }
 {
     shown(rows::look(rows, bytes, index), rows::node_at(rows, index))
 }
 
 // Where the part of the bytes that a row names stands, whatever its node; the empty one at 0 if it names none.
-#[unsafe(no_mangle)]
-pub extern "C" fn argo_part(rows: &[u64], bytes: &[u8], index: usize) -> Place
+pub fn argo_part(rows: &[u64], bytes: &[u8], index: usize) -> Place
     ensures { Stands rows.now bytes.now index result }
 {
     let rows::Placed::At(start, size) = rows::place_at(rows, bytes, index) else {
