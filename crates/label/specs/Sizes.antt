@@ -26,14 +26,14 @@ septets-size (suc k) z m h l a b = by-lt z 128
     let ih = septets-size k (z / 128) (m - 7) (omega arith) (omega arith) (omega arith) (omega arith) in
     rw (septets-big (suc k) c) (omega (arith, ih))))
 
-formula : (m zeros : ℕ) → zeros + m ≡ 64 → 1 ≤ m → size_of_zeros zeros ≡ 1 + (m - 1) / 7
+formula : (m leading : ℕ) → leading + m ≡ 64 → 1 ≤ m → size_of_zeros leading ≡ 1 + (m - 1) / 7
 unfolding size_of_zeros
-formula m zeros e h = omega arith
+formula m leading e h = omega arith
 
 -- 0 has no bit that is set
-no_bits : (zeros : ℕ) → zeros ≡ 64 → size_of_zeros zeros ≡ 1
+no_bits : (leading : ℕ) → leading ≡ 64 → size_of_zeros leading ≡ 1
 unfolding size_of_zeros
-no_bits zeros e = omega arith
+no_bits leading e = omega arith
 
 module _ (z : ℕ) (h : z < 2 ^ 64) where
   pub zeros-most : count_leading_zeros 64 z ≤ 64
