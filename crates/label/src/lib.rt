@@ -1,6 +1,7 @@
 // Labels and VARINTs: numbers as words and by zig-zag, reading them at a cursor, writing them, and
 // their size.
 #![tactic(auto)]
+
 pub mod cursor;
 pub mod put;
 pub mod words;

@@ -1,5 +1,6 @@
 // Which modes there may be, for the reader's header and the writer's number alike; and what a literal takes in them.
 #![tactic(auto)]
+
 ghost use Rattle.std.specs.Prelude.{◌≡◌, ◌+◌, ◌<◌, ◌^◌, length};
 ghost use Rattle.format.specs.Modes.{are_allowed, read_header};
 ghost use Rattle.format.specs.Read.{ending};

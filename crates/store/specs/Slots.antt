@@ -3,7 +3,7 @@ use Rattle.std.specs.Prelude.{◌≡◌, List, ℕ, ◌+◌, ◌<◌, ◌≤◌,
 use Rattle.std.proofs.Common.{sym, ap, ◌∙◌, arith, get_or-set_same, get_or-set_other}
 use Rattle.format.specs.Row.{Place}
 use Rattle.format.specs.Read.{Reading}
-use Rattle.store.specs.Lists.{upto, upto-ext, sum-ext, sum-most}
+use Rattle.store.specs.Lists.{upto-ext, sum-ext, sum-most}
 use Rattle.store.specs.Store.{Store}
 use Rattle.store.specs.Words.{word, key_of, index_of, slot_count, slot_of, slots_of, GoodSlots}
 

@@ -1,6 +1,7 @@
 // The lent work as a store: a place for each key touched so far, the blocks that no key has been given yet, and how many literals there are.
 // The literals themselves are kept by `read_literals` and by `write_literals`. What each word means stands in specs/Words.antt.
 #![tactic(auto)]
+
 ghost use Rattle.std.specs.Prelude.{◌≡◌, ◌<◌, ◌≤◌, ◌^◌, length};
 ghost use Rattle.std.proofs.Math.Option.{none, some};
 ghost use Rattle.format.specs.Read.{nth};

@@ -2,7 +2,7 @@
 use Rattle.std.specs.Prelude.{◌≡◌, true, List, ℕ, ◌+◌, ◌-◌, ◌/◌, ◌≤◌, ◌<◌, min, length, get_or, drop}
 use Rattle.std.proofs.Common.{sym, ◌∙◌, ap, add-zero, arith, length-take, length-drop, get_or-take, get_or-drop}
 use Rattle.format.specs.Modes.{null_terminated_strings}
-use Rattle.format.specs.Row.{Place, row, placed, string_row, row_width}
+use Rattle.format.specs.Row.{row, placed, string_row, row_width}
 use Rattle.format.specs.Read.{Reading, in_message, read}
 use Rattle.format.specs.Claims.{Terminated}
 use Rattle.laws.specs.Facts.{absurd-bool, bind-elim}

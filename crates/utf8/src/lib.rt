@@ -1,5 +1,6 @@
 // The text test: whether bytes are UTF-8, character by character.
 #![tactic(auto)]
+
 ghost use Rattle.std.specs.Prelude.{◌≡◌, ◌≤◌, ◌<◌, length, get_or};
 ghost use Rattle.std.proofs.Math.Seq.{slice};
 ghost use Rattle.format.specs.Utf8.{tail, within, is_text};

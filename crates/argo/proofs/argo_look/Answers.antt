@@ -3,7 +3,6 @@ use mathlib.Core.Path.{ap, subst, ◌∙◌}
 use Prim.Native.Nat.{ℕ}
 use Rattle.rows.specs.Seen.{seen_under}
 use Rattle.argo.specs.Exported.{Shows}
-use borrow.Author.Rules.{rules}
 use Rattle.argo.proofs.argo_look.Goals as goal
 
 pub returns : goal.returns

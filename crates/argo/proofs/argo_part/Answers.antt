@@ -3,7 +3,6 @@ use mathlib.Core.Path.{ap, sym}
 use Rattle.rows.specs.declared.Placed.{Placed}
 use Rattle.rows.specs.Placed.{place}
 use Rattle.argo.proofs.Laws.{or_empty, stands}
-use borrow.Author.Rules.{rules}
 use Rattle.argo.proofs.argo_part.Goals as goal
 
 pub returns-in_default : goal.returns-in_default

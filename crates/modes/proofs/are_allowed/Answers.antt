@@ -2,7 +2,6 @@
 use mathlib.Core.Path.{ap}
 use native.Mathlib.Omega.{arith}
 use lib.Dec.{eqb}
-use borrow.Author.Rules.{rules}
 use Rattle.format.specs.Modes.{are_allowed, among}
 use Rattle.modes.proofs.are_allowed.Goals as goal
 

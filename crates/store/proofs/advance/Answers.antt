@@ -1,5 +1,4 @@
 -- `store::advance` meets its contract. One store moves the slot of the key, or nothing where it has none.
-use borrow.Author.Rules.{rules}
 use Rattle.store.proofs.Slots.{advance-is}
 use Rattle.store.proofs.advance.Goals as goal
 

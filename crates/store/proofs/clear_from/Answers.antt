@@ -1,7 +1,6 @@
 -- `store::clear_from` meets its contract. The loop's invariant: zeros up to `i`. The measure is what is left.
-use Prim.Native.Nat.{◌-◌, ◌≤◌}
 use native.Mathlib.Omega.{arith}
-use Rattle.store.proofs.Zeros.{Zeros, zeros-none, zeros-more, cleared-is}
+use Rattle.store.proofs.Zeros.{zeros-none, zeros-more, cleared-is}
 use Rattle.store.proofs.clear_from.Goals as goal
 
 pub loop-i-init : goal.loop-i-init

@@ -1,6 +1,5 @@
 -- `store::find` meets its contract. The table from keys to slots says whether the key has one.
 use mathlib.Core.Path.{sym}
-use borrow.Author.Rules.{rules}
 use Rattle.store.proofs.Slots.{find_none, find-is}
 use Rattle.store.proofs.find.Goals as goal
 

@@ -1,5 +1,4 @@
 -- `store::move_rest` meets its contract. Neither a slot nor a literal stands in the word.
-use borrow.Author.Rules.{rules}
 use Rattle.store.proofs.Slots.{rest-moved}
 use Rattle.store.proofs.move_rest.Goals as goal
 

@@ -1,7 +1,6 @@
 -- `store::next_slot` meets its contract. The slots are fewer than the keys, one of which has none.
 use mathlib.Core.Path.{sym, ◌∙◌}
 use native.Mathlib.Omega.{arith}
-use borrow.Author.Rules.{rules}
 use Rattle.store.proofs.Slots.{slots_length, slot-room}
 use Rattle.store.proofs.next_slot.Goals as goal
 

@@ -1,5 +1,4 @@
 -- `store::rest` meets its contract.
-use borrow.Author.Rules.{rules}
 use Rattle.store.specs.Slots.{reading-eq}
 use Rattle.store.proofs.rest.Goals as goal
 

@@ -1,7 +1,6 @@
 -- `store::set_rest` meets its contract. Neither a slot nor a literal stands in the two words.
 use native.Mathlib.Omega.{arith}
 use lib.ListN.{length-set}
-use borrow.Author.Rules.{rules}
 use Rattle.store.proofs.Slots.{rest-is}
 use Rattle.store.proofs.set_rest.Goals as goal
 

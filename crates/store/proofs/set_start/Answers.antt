@@ -1,5 +1,4 @@
 -- `store::set_start` meets its contract.
-use borrow.Author.Rules.{rules}
 use Rattle.store.proofs.Slots.{begun-is}
 use Rattle.store.proofs.set_start.Goals as goal
 

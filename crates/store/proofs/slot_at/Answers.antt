@@ -1,6 +1,5 @@
 -- `store::slot_at` meets its contract.
 use native.Mathlib.Omega.{arith}
-use borrow.Author.Rules.{rules}
 use Rattle.store.proofs.Slots.{slot-in, slot_is}
 use Rattle.store.proofs.slot_at.Goals as goal
 

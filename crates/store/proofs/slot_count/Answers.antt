@@ -1,7 +1,6 @@
 -- `store::slot_count` meets its contract.
 use mathlib.Core.Path.{sym, ◌∙◌}
 use native.Mathlib.Omega.{arith}
-use borrow.Author.Rules.{rules}
 use Rattle.store.specs.Slots.{slot-most}
 use Rattle.store.proofs.Slots.{slots_length}
 use Rattle.store.proofs.slot_count.Goals as goal

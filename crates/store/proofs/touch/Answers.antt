@@ -1,7 +1,6 @@
 -- `store::touch` meets its contract. The stores make a slot at the end.
 use native.Mathlib.Omega.{arith}
 use lib.ListN.{length-set}
-use borrow.Author.Rules.{rules}
 use Rattle.store.proofs.Slots.{touch_is}
 use Rattle.store.proofs.touch.Goals as goal
 

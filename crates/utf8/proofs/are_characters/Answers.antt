@@ -1,11 +1,8 @@
 -- `utf8::are_characters` meets its contract. The loop's invariant: the bytes still to come are judged as the whole is.
-use mathlib.Core.Path.{◌≡◌, refl, sym, ◌∙◌}
-use Prim.Native.Nat.{◌-◌}
+use mathlib.Core.Path.{refl, sym, ◌∙◌}
 use native.Mathlib.Omega.{arith}
-use lib.Seq.{slice}
 use Rattle.format.specs.Utf8.{text_from, is_text}
 use Rattle.utf8.proofs.Laws.{slice-past}
-use borrow.Author.Rules.{rules}
 use Rattle.utf8.proofs.are_characters.Goals as goal
 
 pub loop-at-init : goal.loop-at-init

@@ -1,11 +1,8 @@
 -- `utf8::are_characters` meets its contract. The loop's invariant: the bytes still to come are judged as the whole is.
-use mathlib.Core.Path.{◌≡◌, refl, sym, ◌∙◌}
+use mathlib.Core.Path.{◌≡◌}
 use Prim.Native.Nat.{◌-◌}
-use native.Mathlib.Omega.{arith}
 use lib.Seq.{slice}
-use Rattle.format.specs.Utf8.{text_from, is_text}
-use Rattle.utf8.proofs.Laws.{slice-past}
-use borrow.Author.Rules.{rules}
+use Rattle.format.specs.Utf8.{is_text}
 use Rattle.utf8.proofs.are_characters.Given as goal
 
 abbrev pub invariant-loop-at : goal.invariant-loop-at

@@ -1,6 +1,5 @@
 -- `utf8::character` meets its contract.
 use Rattle.utf8.proofs.Laws.{passes-one}
-use borrow.Author.Rules.{rules}
 use Rattle.utf8.proofs.character.Goals as goal
 
 pub returns-then-b-lt128 : goal.returns-then-b-lt128

@@ -1,9 +1,6 @@
 -- `utf8::is_ascii` meets its contract. The loop's invariant: the flag, and the bytes still to come, decide as the whole does.
-use mathlib.Core.Bool.{◌&&◌, and_assoc, and-true}
-use mathlib.Core.Path.{◌≡◌, refl, sym, ◌∙◌}
-use Prim.Native.Nat.{◌-◌}
-use borrow.Author.Rules.{rules}
-use lib.Seq.{slice}
+use mathlib.Core.Bool.{and_assoc, and-true}
+use mathlib.Core.Path.{refl, sym, ◌∙◌}
 use Rattle.utf8.specs.Ascii.{is_ascii}
 use Rattle.utf8.proofs.Laws.{slice-next, slice-past}
 use Rattle.utf8.proofs.is_ascii.Goals as goal

@@ -1,6 +1,5 @@
 -- `utf8::is_second` meets its contract.
 use Rattle.format.specs.Utf8.{within}
-use borrow.Author.Rules.{rules}
 use Rattle.utf8.proofs.is_second.Goals as goal
 
 pub returns : goal.returns

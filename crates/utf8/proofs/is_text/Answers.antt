@@ -2,7 +2,6 @@
 use mathlib.Core.Path.{sym, ◌∙◌}
 use lib.Seq.{slice}
 use Rattle.utf8.proofs.Laws.{ascii-text}
-use borrow.Author.Rules.{rules}
 use Rattle.utf8.proofs.is_text.Goals as goal
 
 pub returns-then-is_ascii : goal.returns-then-is_ascii

@@ -1,6 +1,5 @@
 -- `utf8::two` meets its contract.
 use Rattle.utf8.proofs.Laws.{two-short, two-all, two-bad}
-use borrow.Author.Rules.{rules}
 use Rattle.utf8.proofs.two.Goals as goal
 
 pub returns-then-end-at-lt2 : goal.returns-then-end-at-lt2

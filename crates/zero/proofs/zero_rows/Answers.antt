@@ -1,9 +1,6 @@
 -- `zero::zero_rows` meets its contract: after i turns the first i elements are zeroed. The measure is what is left of the length.
-use Prim.Native.Nat.{◌-◌}
 use native.Mathlib.Omega.{arith}
-use borrow.Author.Rules.{rules}
-use lib.ListN.{length}
-use Rattle.zero.proofs.Laws.{Zeroed, none-zeroed, one_more, all-zeroed}
+use Rattle.zero.proofs.Laws.{none-zeroed, one_more, all-zeroed}
 use Rattle.zero.proofs.zero_rows.Goals as goal
 
 pub loop-i-init : goal.loop-i-init

@@ -1,9 +1,7 @@
 -- `zero::zero_words` meets its contract: after i turns the first i elements are zeroed. The measure is what is left of the length.
 use Prim.Native.Nat.{◌-◌}
-use native.Mathlib.Omega.{arith}
-use borrow.Author.Rules.{rules}
 use lib.ListN.{length}
-use Rattle.zero.proofs.Laws.{Zeroed, none-zeroed, one_more, all-zeroed}
+use Rattle.zero.proofs.Laws.{Zeroed}
 use Rattle.zero.proofs.zero_words.Given as goal
 
 abbrev pub invariant-loop-i : goal.invariant-loop-i

@@ -1,10 +1,7 @@
 -- `label::cursor::joined` meets its contract. The loop's invariant: the bytes from i to `last` have been joined to acc, which fits.
 -- The measure is i.
-use Rattle.std.proofs.Common.{◌≡◌, ℕ, ◌+◌, ◌-◌, ◌*◌, ◌%◌, ◌^◌, ◌<◌, ◌≤◌, List, get_or, arith, rules}
-use Rattle.format.specs.Label.{within64}
-use Rattle.label.specs.declared.cursor.Varint.TheVariants.{Number, Broken}
-use Rattle.label.specs.Cursor.{answer, up_to}
-use Rattle.label.proofs.Run.{Joined, joined-next, joined-over, joined-all}
+use Rattle.std.proofs.Common.{◌^◌, ◌<◌, ◌≤◌}
+use Rattle.label.proofs.Run.{Joined}
 use Rattle.label.proofs.cursor.joined.Given as goal
 
 abbrev pub invariant-loop-i : goal.invariant-loop-i

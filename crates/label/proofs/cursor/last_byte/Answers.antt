@@ -1,7 +1,7 @@
 -- `label::cursor::last_byte` meets its contract. The loop's invariant: the bytes from `at` to i, nine at most, each say that more follow.
 -- The measure is what is left before `end`.
-use Rattle.std.proofs.Common.{ℕ, ◌+◌, ◌-◌, ◌<◌, ◌≤◌, List, get_or, arith, rules}
-use Rattle.label.proofs.Run.{Ran, ran-none, ran-next, ran-last, ran-past, ran-long}
+use Rattle.std.proofs.Common.{◌+◌, arith, rules}
+use Rattle.label.proofs.Run.{ran-none, ran-next, ran-last, ran-past, ran-long}
 use Rattle.label.proofs.cursor.last_byte.Goals as goal
 
 pub loop-i-init : goal.loop-i-init

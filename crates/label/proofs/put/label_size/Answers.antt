@@ -1,5 +1,5 @@
 -- `label::put::label_size` meets its contract.
-use Rattle.std.proofs.Common.{ℕ, length, ap, ◌∙◌, w64, rules}
+use Rattle.std.proofs.Common.{ℕ, length, ap, ◌∙◌, w64}
 use mir.ValLaws.{to_z-of_z}
 use Rattle.format.specs.Label.{zigzag, varint, label}
 use Rattle.label.proofs.put.label_size.Goals as goal

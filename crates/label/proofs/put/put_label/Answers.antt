@@ -1,5 +1,5 @@
 -- `label::put::put_label` meets its contract.
-use Rattle.std.proofs.Common.{◌≡◌, ap, ◌∙◌, w64, rules}
+use Rattle.std.proofs.Common.{◌≡◌, ap, ◌∙◌, w64}
 use mir.ValLaws.{to_z-of_z}
 use Rattle.format.specs.Label.{zigzag, label}
 use Rattle.label.proofs.put.put_label.Goals as goal

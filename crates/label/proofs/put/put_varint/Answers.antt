@@ -1,6 +1,6 @@
 -- `label::put::put_varint` meets its contract. The loop's invariant: with the bytes of v stored from i, the buffer is what it is to be.
 -- The measure is v.
-use Rattle.std.proofs.Common.{◌≡◌, ℕ, ◌+◌, ◌/◌, ◌%◌, ◌^◌, ◌<◌, length, set, sym, ap, ◌∙◌, add-one, arith, length-set, rules}
+use Rattle.std.proofs.Common.{ℕ, ◌+◌, ◌/◌, ◌%◌, length, set, sym, ap, ◌∙◌, add-one, arith, length-set, rules}
 use lib.Seq.{sets}
 use Rattle.format.specs.Label.{varint}
 use Rattle.label.specs.Laws.{varint-small, varint-big, varint-least}

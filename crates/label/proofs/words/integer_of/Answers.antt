@@ -1,5 +1,5 @@
 -- `label::words::integer_of` meets its contract: from 2^63 up, the magnitude less one fits an i64, and is taken from -1.
-use Rattle.std.proofs.Common.{◌≡◌, suc, ◌-◌, ◌^◌, negsuc, ◌-ℤ◌, sym, ap, ◌∙◌, arith, w64, SFits, to_z, rules}
+use Rattle.std.proofs.Common.{◌≡◌, suc, ◌-◌, ◌^◌, negsuc, ◌-ℤ◌, sym, ap, ◌∙◌, arith, w64, SFits, to_z}
 use mathlib.Core.Path.{subst⁻¹}
 use mir.ValLaws.{to_z_pos, to_z-of_z}
 use Rattle.label.specs.Laws.{integer-low, integer-high}

@@ -1,5 +1,5 @@
 -- `label::words::unzigzag` meets its contract, by the word that half of z stands for.
-use Rattle.std.proofs.Common.{◌≡◌, suc, ◌-◌, ◌/◌, ◌^◌, negsuc, sym, ap, ◌∙◌, arith, w64, rules}
+use Rattle.std.proofs.Common.{◌≡◌, suc, ◌-◌, ◌/◌, ◌^◌, negsuc, sym, ap, ◌∙◌, arith, w64}
 use mir.ValLaws.{to_z-of_z}
 use Rattle.label.specs.Laws.{integer-low, integer-high, unzigzag-even, unzigzag-odd}
 use Rattle.label.proofs.words.unzigzag.Goals as goal

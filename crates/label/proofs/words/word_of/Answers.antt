@@ -1,5 +1,5 @@
 -- `label::words::word_of` meets its contract: below zero, -1 - n is from 0 up, and one more is taken from 0, wrapping.
-use Rattle.std.proofs.Common.{◌≡◌, suc, ◌+◌, ◌-◌, ◌%◌, ◌^◌, T, ℤ, nat_abs, sym, ap, ◌∙◌, subst, arith, w64, Fits, SFits, rules}
+use Rattle.std.proofs.Common.{◌≡◌, suc, ◌+◌, ◌-◌, ◌%◌, ◌^◌, T, ℤ, nat_abs, sym, ap, ◌∙◌, subst, arith, w64, Fits, SFits}
 use mathlib.Core.Path.{subst⁻¹}
 use lib.Signed.{non_neg}
 use Rattle.format.specs.Label.{word}

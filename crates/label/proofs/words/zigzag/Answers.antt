@@ -1,5 +1,5 @@
 -- `label::words::zigzag` meets its contract, by the word of n.
-use Rattle.std.proofs.Common.{◌≡◌, ℕ, suc, ◌+◌, ◌-◌, ◌*◌, ◌^◌, ap, ◌∙◌, arith, w64, rules}
+use Rattle.std.proofs.Common.{◌≡◌, ℕ, suc, ◌+◌, ◌-◌, ◌*◌, ◌^◌, ap, ◌∙◌, arith, w64}
 use mir.ValLaws.{to_z-of_z}
 use Rattle.format.specs.Label.{word}
 use Rattle.label.proofs.Signed.{i64-signed, zigzag-low, zigzag-high}

@@ -1,5 +1,5 @@
 -- `label::cursor::Cursor::label` meets its contract: a label is a number's zig-zag undone.
-use Rattle.std.proofs.Common.{◌≡◌, ℕ, List, ℤ, sym, refl, ap, ◌∙◌, w64, rules}
+use Rattle.std.proofs.Common.{◌≡◌, ℕ, List, ℤ, sym, refl, ap, ◌∙◌, w64}
 use mathlib.Core.Option.{Option, none, some}
 use lib.Seq.{slice}
 use mir.ValLaws.{to_z-of_z}

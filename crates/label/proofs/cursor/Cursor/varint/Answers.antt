@@ -1,5 +1,5 @@
 -- `label::cursor::Cursor::varint` meets its contract: no byte, one byte, or what `last_byte` and `joined` say.
-use Rattle.std.proofs.Common.{◌≡◌, ◌<◌, get_or, sym, refl, ap, ◌∙◌, arith, rules}
+use Rattle.std.proofs.Common.{◌≡◌, ◌<◌, get_or, sym, refl, ap, ◌∙◌, arith}
 use Rattle.format.specs.Label.{within64, read_varint}
 use Rattle.label.specs.declared.cursor.Varint.TheVariants.{Number, Broken}
 use Rattle.label.specs.Cursor.{answer, varint_at}
