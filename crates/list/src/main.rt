@@ -1,19 +1,25 @@
 // Reads a table and then a message on standard input, and prints the rows of the message, or the refusal.
+#![tactic(auto)]
+
 ghost use Rattle.std.specs.Prelude.{◌<◌, ◌≤◌, length};
 
 use label::words;
-use libc::{STDIN_FILENO, STDOUT_FILENO};
 use rows::{Seen, kind};
+use std::io;
+use std::io::{BufWriter, Read, Write};
 
 // Words from here on are negative integers.
 const SIGN: u64 = 0x8000000000000000;
 
-fn text(s: &[u8]) {
-    io::write_all(STDOUT_FILENO, s);
+// The longest table and message, and one byte more, so that a message that is too long shows as one.
+const MOST_INPUT: u64 = 69640;
+
+fn text<W: Write>(out: &mut W, s: &[u8]) -> io::Result<()> {
+    out.write_all(s)
 }
 
-fn decimal(n: u64) {
-    io::print_decimal(STDOUT_FILENO, n);
+fn decimal<W: Write>(out: &mut W, n: u64) -> io::Result<()> {
+    write!(out, "{n}")
 }
 
 fn wide(x: u8) -> usize
@@ -37,102 +43,98 @@ fn table_size(input: &[u8]) -> usize
 }
 
 // The smallest integer has no opposite among the integers, so the word is negated.
-fn integer(n: i64) {
+fn integer<W: Write>(out: &mut W, n: i64) -> io::Result<()> {
     let w = words::word_of(n);
     if w < SIGN {
-        decimal(w);
-        return;
+        return decimal(out, w);
     }
-    text(b"-");
-    decimal(std::num::wrapping_sub_u64(0, w));
+    text(out, b"-")?;
+    decimal(out, std::num::wrapping_sub_u64(0, w))
 }
 
-fn pair(a: usize, b: usize) {
-    decimal(a as u64);
-    text(b" ");
-    decimal(b as u64);
+fn pair<W: Write>(out: &mut W, a: usize, b: usize) -> io::Result<()> {
+    decimal(out, a as u64)?;
+    text(out, b" ")?;
+    decimal(out, b as u64)
 }
 
-fn place(kind: u64, start: usize, size: usize) {
+fn place<W: Write>(out: &mut W, kind: u64, start: usize, size: usize) -> io::Result<()> {
     if kind == kind::STRING {
-        text(b"string ");
+        text(out, b"string ")?;
     }
     if kind == kind::BYTES {
-        text(b"bytes ");
+        text(out, b"bytes ")?;
     }
     if kind == kind::FIXED {
-        text(b"fixed ");
+        text(out, b"fixed ")?;
     }
-    pair(start, size);
+    pair(out, start, size)
 }
 
-fn count(kind: u64, n: u64) {
+fn count<W: Write>(out: &mut W, kind: u64, n: u64) -> io::Result<()> {
     if kind == kind::RECORD {
-        text(b"record ");
+        text(out, b"record ")?;
     }
     if kind == kind::ARRAY {
-        text(b"array ");
+        text(out, b"array ")?;
     }
-    decimal(n);
+    decimal(out, n)
 }
 
-fn show(seen: Seen) {
+fn show<W: Write>(out: &mut W, seen: Seen) -> io::Result<()> {
     match seen {
-        Seen::Null => text(b"null"),
-        Seen::Absent => text(b"absent"),
-        Seen::Truth(t) => { if t { text(b"true") } else { text(b"false") } }
+        Seen::Null => text(out, b"null"),
+        Seen::Absent => text(out, b"absent"),
+        Seen::Truth(true) => text(out, b"true"),
+        Seen::Truth(false) => text(out, b"false"),
         Seen::Integer(n) => {
-            text(b"int ");
-            integer(n)
+            text(out, b"int ")?;
+            integer(out, n)
         }
-        Seen::Float(_, bits) => {
-            text(b"float ");
-            io::print_hex(STDOUT_FILENO, bits, 16);
-        }
-        Seen::Place { kind, start, size } => place(kind, start, size),
-        Seen::Count { kind, count: n } => count(kind, n),
-        Seen::Refused { number } => decimal(number),
+        Seen::Float(_, bits) => write!(out, "float {bits:016x}"),
+        Seen::Place { kind, start, size } => place(out, kind, start, size),
+        Seen::Count { kind, count: n } => count(out, kind, n),
+        Seen::Refused { number } => decimal(out, number),
     }
 }
 
-fn line(rows: &[u64], message: &[u8], i: u64) {
-    decimal(i);
-    text(b" ");
-    show(rows::look(rows, message, i as usize));
-    text(b"\n");
+fn line<W: Write>(out: &mut W, rows: &[u64], message: &[u8], i: u64) -> io::Result<()> {
+    decimal(out, i)?;
+    text(out, b" ")?;
+    show(out, rows::look(rows, message, i as usize))?;
+    text(out, b"\n")
 }
 
-fn lines(rows: &[u64], message: &[u8], n: u64) {
-    let mut i = 0;
-    while i < n {
-        line(rows, message, i);
-        i += 1;
+fn lines<W: Write>(out: &mut W, rows: &[u64], message: &[u8], n: u64) -> io::Result<()> {
+    for i in 0..n {
+        line(out, rows, message, i)?;
     }
+    Ok(())
 }
 
-fn read(table: &[u8], message: &[u8]) {
+fn read<W: Write>(out: &mut W, table: &[u8], message: &[u8]) -> io::Result<()> {
     let mut rows = [0u64; 32768];
     let mut work = [0u32; 16384];
     let r = reader::read(table, message, &mut rows, &mut work);
     if r.number == 0 {
-        text(b"rows ");
-        decimal(r.second);
-        text(b"\n");
-        lines(&rows, message, r.second);
-        return;
+        text(out, b"rows ")?;
+        decimal(out, r.second)?;
+        text(out, b"\n")?;
+        return lines(out, &rows, message, r.second);
     }
-    text(b"refused ");
-    decimal(r.number);
-    text(b" ");
-    decimal(r.second);
-    text(b"\n");
+    text(out, b"refused ")?;
+    decimal(out, r.number)?;
+    text(out, b" ")?;
+    decimal(out, r.second)?;
+    text(out, b"\n")
 }
 
-// The longest table and message, and one byte more, so that a message that is too long shows as one.
-fn main() {
-    let mut input = [0u8; 69640];
-    let n = io::read_full(STDIN_FILENO, &mut input);
-    let all = &input[..n];
+fn main(rt: HostRuntime) -> io::Result<()> {
+    let mut input = Vec::new(rt.alloc());
+    rt.stdin().take(MOST_INPUT).read_to_end(&mut input)?;
+    let all = input.as_slice();
     let k = table_size(all);
-    read(&all[0..k], &all[k..]);
+    let mut out = BufWriter::new(rt.alloc(), rt.stdout())?;
+    read(&mut out, &all[0..k], &all[k..])?;
+    out.flush()
 }

@@ -8,27 +8,15 @@ const DIRTY_WORD: u32 = 0xa5a5a5a5;
 const DIRTY_BYTE: u8 = 0xa5;
 
 pub fn soil_rows(rows: &mut [u64]) {
-    let mut i = 0;
-    while i < rows.len() {
-        rows[i] = DIRTY;
-        i += 1;
-    }
+    rows.fill(DIRTY);
 }
 
 pub fn soil_work(work: &mut [u32]) {
-    let mut i = 0;
-    while i < work.len() {
-        work[i] = DIRTY_WORD;
-        i += 1;
-    }
+    work.fill(DIRTY_WORD);
 }
 
 pub fn soil_bytes(bytes: &mut [u8]) {
-    let mut i = 0;
-    while i < bytes.len() {
-        bytes[i] = DIRTY_BYTE;
-        i += 1;
-    }
+    bytes.fill(DIRTY_BYTE);
 }
 
 fn row_word(wanted: &[u64], lent: usize, i: usize) -> u64 {
@@ -42,12 +30,10 @@ fn row_word(wanted: &[u64], lent: usize, i: usize) -> u64 {
 }
 
 pub fn rows_hold(rows: &[u64], wanted: &[u64], lent: usize) -> bool {
-    let mut i = 0;
-    while i < rows.len() {
-        if rows[i] != row_word(wanted, lent, i) {
+    for (i, word) in rows.iter().enumerate() {
+        if *word != row_word(wanted, lent, i) {
             return false;
         }
-        i += 1;
     }
     true
 }
@@ -63,12 +49,10 @@ fn out_byte(wanted: &[u8], lent: usize, i: usize) -> u8 {
 }
 
 pub fn out_holds(out: &[u8], wanted: &[u8], lent: usize) -> bool {
-    let mut i = 0;
-    while i < out.len() {
-        if out[i] != out_byte(wanted, lent, i) {
+    for (i, byte) in out.iter().enumerate() {
+        if *byte != out_byte(wanted, lent, i) {
             return false;
         }
-        i += 1;
     }
     true
 }
@@ -82,26 +66,14 @@ fn work_word(lent: usize, i: usize) -> u32 {
 
 // Of work nothing is wanted but zeros.
 pub fn work_holds(work: &[u32], lent: usize) -> bool {
-    let mut i = 0;
-    while i < work.len() {
-        if work[i] != work_word(lent, i) {
+    for (i, word) in work.iter().enumerate() {
+        if *word != work_word(lent, i) {
             return false;
         }
-        i += 1;
     }
     true
 }
 
 pub fn are_same(bytes: &[u8], wanted: &[u8]) -> bool {
-    if bytes.len() != wanted.len() {
-        return false;
-    }
-    let mut i = 0;
-    while i < bytes.len() {
-        if bytes[i] != wanted[i] {
-            return false;
-        }
-        i += 1;
-    }
-    true
+    bytes == wanted
 }

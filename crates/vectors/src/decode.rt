@@ -1,5 +1,5 @@
 // Numbers and lists as the stored cases have them. Past the end of a block all is 0.
-ghost use Rattle.std.specs.Prelude.{◌+◌, ◌≤◌, ◌<◌, length};
+ghost use Rattle.std.specs.Prelude.{◌≤◌, ◌<◌, length};
 
 // Numbers of one byte are below this; a larger byte says how many more there are, from 1 to 8.
 const LONG: u64 = 248;
@@ -19,7 +19,7 @@ pub struct List {
 }
 
 // The two numbers of an answer, and the place after them.
-#[derive(Drop)]
+#[derive(Clone, Copy)]
 pub struct Wanted {
     pub number: u64,
     pub second: u64,
@@ -57,9 +57,7 @@ fn little_endian(s: &[u8], from: usize, to: usize) -> u64
     requires { to ≤ length s.now }
 {
     let mut v: u64 = 0;
-    let mut k = to;
-    while from < k {
-        k -= 1;
+    for k in (from..to).rev() {
         v = (v % 72057594037927936) * 256 + byte(s, k);
     }
     v
@@ -102,14 +100,12 @@ fn copy(s: &[u8], from: usize, to: usize, into: &mut [u8], k: usize) -> usize
     requires { (to ≤ length s.now) × (k ≤ length into.old) }
     ensures { result ≤ length into.old }
 {
-    let mut i = from;
     let mut j = k;
-    while i < to {
+    for i in from..to {
         if into.len() <= j {
             return j;
         }
         into[j] = s[i];
-        i += 1;
         j += 1;
     }
     j
@@ -119,11 +115,9 @@ fn repeat(s: &[u8], from: usize, to: usize, times: u64, into: &mut [u8], k: usiz
     requires { (to ≤ length s.now) × (k ≤ length into.old) }
     ensures { result ≤ length into.old }
 {
-    let mut left = times;
     let mut j = k;
-    while 0 < left {
+    for _ in 0..times {
         j = copy(s, from, to, into, j);
-        left -= 1;
     }
     j
 }
@@ -148,14 +142,12 @@ pub fn bytes(s: &[u8], at: usize, into: &mut [u8]) -> List
     ensures { (result.size ≤ length into.old) × (result.at ≤ length s.now) }
 {
     let runs = number(s, at);
-    let mut left = runs.value;
     let mut from = runs.at;
     let mut k = 0;
-    while 0 < left {
+    for _ in 0..runs.value {
         let r = run(s, from, into, k);
         k = r.size;
         from = r.at;
-        left -= 1;
     }
     List { size: k, at: from }
 }
@@ -165,10 +157,9 @@ fn copy_words(s: &[u8], from: usize, count: u64, into: &mut [u64], k: usize) -> 
     requires { (from ≤ length s.now) × (k ≤ length into.old) }
     ensures { (result.size ≤ length into.old) × (result.at ≤ length s.now) }
 {
-    let mut left = count;
     let mut at = from;
     let mut j = k;
-    while 0 < left {
+    for _ in 0..count {
         if into.len() <= j {
             return List { size: j, at };
         }
@@ -176,7 +167,6 @@ fn copy_words(s: &[u8], from: usize, count: u64, into: &mut [u64], k: usize) -> 
         into[j] = n.value;
         at = n.at;
         j += 1;
-        left -= 1;
     }
     List { size: j, at }
 }
@@ -190,14 +180,12 @@ fn run_words(s: &[u8], at: usize, into: &mut [u64], k: usize) -> List
     let size = number(s, times.at);
     let count = size.value;
     let from = size.at;
-    let mut left = times.value;
     let mut to = from;
     let mut j = k;
-    while 0 < left {
+    for _ in 0..times.value {
         let r = copy_words(s, from, count, into, j);
         j = r.size;
         to = r.at;
-        left -= 1;
     }
     List { size: j, at: to }
 }
@@ -207,14 +195,12 @@ pub fn words(s: &[u8], at: usize, into: &mut [u64]) -> List
     ensures { (result.size ≤ length into.old) × (result.at ≤ length s.now) }
 {
     let runs = number(s, at);
-    let mut left = runs.value;
     let mut from = runs.at;
     let mut k = 0;
-    while 0 < left {
+    for _ in 0..runs.value {
         let r = run_words(s, from, into, k);
         k = r.size;
         from = r.at;
-        left -= 1;
     }
     List { size: k, at: from }
 }

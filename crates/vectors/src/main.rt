@@ -1,5 +1,7 @@
 // Runs stored cases through the library, and prints how many there are and how many differ. Standard input has them in
 // blocks of one size, with zeros after the last of each; model/src/store.rs writes them and says how.
+#![tactic(auto)]
+
 ghost use Rattle.std.specs.Prelude.{◌≤◌, length};
 
 mod buffers;
@@ -7,7 +9,8 @@ mod calls;
 mod decode;
 
 use argo::Answer;
-use libc::{STDIN_FILENO, STDOUT_FILENO};
+use std::io;
+use std::io::Read;
 
 const BLOCK: usize = 65536;
 
@@ -230,11 +233,8 @@ fn part_case(s: &[u8], at: usize, rows: &mut [u64], bytes: &mut [u8], part: &mut
     Ran { same, at: p.at }
 }
 
-fn report(t: Tally) {
-    io::print_decimal(STDOUT_FILENO, t.ran);
-    io::write_all(STDOUT_FILENO, b" cases, ");
-    io::print_decimal(STDOUT_FILENO, t.differ);
-    io::write_all(STDOUT_FILENO, b" differ\n");
+fn report(rt: &impl Print, t: Tally) -> io::Result<()> {
+    println!(rt; "{} cases, {} differ", t.ran, t.differ)
 }
 
 // One more. The number stays below a bound that no input comes near, so that it cannot wrap.
@@ -243,21 +243,19 @@ fn next(n: u64) -> u64 {
 }
 
 // One more case; one that differs is named by its number.
-fn count(t: Tally, same: bool) -> Tally {
+fn count(rt: &impl Print, t: Tally, same: bool) -> io::Result<Tally> {
     let ran = next(t.ran);
     if same {
-        return Tally {
+        return Ok(Tally {
             ran,
             differ: t.differ,
-        };
+        });
     }
-    io::write_all(STDOUT_FILENO, b"differs: case ");
-    io::print_decimal(STDOUT_FILENO, ran);
-    io::write_all(STDOUT_FILENO, b"\n");
-    Tally {
+    println!(rt; "differs: case {ran}")?;
+    Ok(Tally {
         ran,
         differ: next(t.differ),
-    }
+    })
 }
 
 // The case after its letter.
@@ -292,6 +290,7 @@ fn case(
 
 // The cases of a block.
 fn block(
+    rt: &impl Print,
     s: &[u8],
     tally: Tally,
     table: &mut [u8],
@@ -300,38 +299,37 @@ fn block(
     rows: &mut [u64],
     wanted: &mut [u64],
     work: &mut [u32],
-) -> Tally {
+) -> io::Result<Tally> {
     let mut t = tally;
     let mut at = 0;
-    let mut left = s.len();
-    while 0 < left {
-        left -= 1;
+    for _ in 0..s.len() {
         if s.len() <= at {
-            return t;
+            return Ok(t);
         }
         let letter = s[at];
         if letter == 0 {
-            return t;
+            return Ok(t);
         }
         let r = case(s, letter, at + 1, table, bytes, out, rows, wanted, work);
-        t = count(t, r.same);
+        t = count(rt, t, r.same)?;
         at = r.at;
     }
-    t
+    Ok(t)
 }
 
 // The next block of the input, and whether there may be another.
-fn next_block(t: Tally) -> Turn {
-    let mut input = [0u8; 65536];
+fn next_block<R: Read>(rt: &(impl Print + Alloc), input: &mut R, t: Tally) -> io::Result<Turn> {
+    let mut cases = Vec::new(rt.alloc());
     let mut table = [0u8; 73728];
     let mut bytes = [0u8; 73728];
     let mut out = [0u8; 73728];
     let mut rows = [0u64; 33000];
     let mut wanted = [0u64; 33000];
     let mut work = [0u32; 21504];
-    let n = io::read_full(STDIN_FILENO, &mut input);
+    let n = input.by_ref().take(BLOCK as u64).read_to_end(&mut cases)?;
     let tally = block(
-        &input[..n],
+        rt,
+        &cases,
         t,
         &mut table,
         &mut bytes,
@@ -339,23 +337,22 @@ fn next_block(t: Tally) -> Turn {
         &mut rows,
         &mut wanted,
         &mut work,
-    );
-    Turn {
+    )?;
+    Ok(Turn {
         tally,
         more: n == BLOCK,
-    }
+    })
 }
 
-fn main() {
+fn main(rt: HostRuntime) -> io::Result<()> {
+    let mut input = rt.stdin();
     let mut t = Tally { ran: 0, differ: 0 };
-    let mut left: usize = 1000;
-    while 0 < left {
-        left -= 1;
-        let turn = next_block(t);
+    for _ in 0..1000 {
+        let turn = next_block(&rt, &mut input, t)?;
         t = turn.tally;
         if !turn.more {
-            left = 0;
+            break;
         }
     }
-    report(t);
+    report(&rt, t)
 }
