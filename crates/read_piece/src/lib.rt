@@ -8,7 +8,7 @@ ghost use Rattle.label.specs.Cursor.{cursor, label_at};
 
 use label::{Cursor, Label};
 
-#[derive(Drop)]
+#[derive(Clone, Copy)]
 pub struct Piece<'a> {
     pub bytes: &'a [u8],
     pub at: usize,

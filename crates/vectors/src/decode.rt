@@ -5,14 +5,14 @@ ghost use Rattle.std.specs.Prelude.{◌≤◌, ◌<◌, length};
 const LONG: u64 = 248;
 
 // A number, and the place after it.
-#[derive(Drop)]
+#[derive(Clone, Copy)]
 pub struct Got {
     pub value: u64,
     pub at: usize,
 }
 
 // How long the list is that was put into a buffer, and the place after it.
-#[derive(Drop)]
+#[derive(Clone, Copy)]
 pub struct List {
     pub size: usize,
     pub at: usize,

@@ -15,20 +15,20 @@ use std::io::Read;
 const BLOCK: usize = 65536;
 
 // Does the library answer as it is stored? And where does the next case stand?
-#[derive(Drop)]
+#[derive(Clone, Copy)]
 struct Ran {
     same: bool,
     at: usize,
 }
 
 // How many cases there were, and how many of them differ.
-#[derive(Drop)]
+#[derive(Clone, Copy)]
 struct Tally {
     ran: u64,
     differ: u64,
 }
 
-#[derive(Drop)]
+#[derive(Clone, Copy)]
 struct Turn {
     tally: Tally,
     more: bool,
@@ -84,7 +84,7 @@ fn read_case(
 }
 
 // What a writing case lends and gives, and the place after it.
-#[derive(Drop)]
+#[derive(Clone, Copy)]
 struct Given {
     words: u64,
     room: u64,
@@ -117,7 +117,7 @@ fn lend(s: &[u8], at: usize, table: &mut [u8], rows: &mut [u64], pool: &mut [u8]
 }
 
 // What the library has answered, with what is still to be looked at.
-#[derive(Drop)]
+#[derive(Clone, Copy)]
 struct Written {
     answer: Answer,
     words: u64,
