@@ -1,9 +1,17 @@
 -- What the C interface answers of a row: words of their own in place of an enum, and a place in place of a part of the lent bytes.
-use Rattle.std.specs.Prelude.{◌≡◌, cond, List, [], ◌∷◌, ℕ, ◌+◌, ◌≤◌, eqb, length, Float}
+use Rattle.std.specs.Prelude.{◌≡◌, cond, List, [], ◌∷◌, ℕ, ◌+◌, ◌≤◌, eqb, length, Float, Result}
 use Rattle.format.specs.Answer.{Answer, ok, refuse, number as number_of, second as second_of, zeros}
+use Rattle.format.specs.Refusal.{answered}
+use Rattle.format.specs.declared.refusal.Refusal.{Refusal}
 use Rattle.format.specs.Row.{Says, bare, placed, Row, Place, row_width, row_words, float_row, float_of, bytes_at, found, part as part_of}
+use Rattle.argo.specs.declared.Answer.{Answer as Numbered}
 use Rattle.argo.specs.declared.Seen.{Seen}
 use Rattle.argo.specs.declared.Place.{Place as Start}
+
+-- The two numbers of what a call of the library answers.
+pub record Numbers (r : Result ℕ Refusal) (a : Numbered) : Type 0 where
+  pub number : a.number ≡ number_of (answered r)
+  pub second : a.second ≡ second_of (λ count. count) (answered r)
 
 -- the row's four words; zeros where it is refused
 unfoldable pub words_of : Answer (Row Place) → List ℕ

@@ -3,30 +3,35 @@
 #![tactic(auto)]
 
 ghost use Rattle.std.specs.Prelude.{◌≡◌, length};
-ghost use Rattle.format.specs.Answer.{ok, refuse, number, second, output, zeros};
+ghost use Rattle.format.specs.Answer.{ok, number, second, output, zeros};
+ghost use Rattle.format.specs.Part.{place_of};
+ghost use Rattle.format.specs.Refusal.{refused};
 ghost use Rattle.format.specs.Table.{check};
-ghost use Rattle.format.specs.Row.{bare, words as words_of, look};
+ghost use Rattle.format.specs.Row.{bare, words as words_of, look, float_of};
 ghost use Rattle.format.specs.Read.{read};
 ghost use Rattle.format.specs.Write.{write};
 ghost use Rattle.writer.specs.Demands.{Demands};
-ghost use Rattle.argo.specs.Exported.{Shows, Stands};
+ghost use Rattle.argo.specs.Exported.{Numbers, Shows, Stands, as_place};
+ghost use Rattle.rows.specs.Kind.{word_of};
 ghost use Rattle.rows.specs.declared.Seen.TheVariants.{Truth};
 ghost use Rattle.rows.specs.Seen.{seen, seen_under, RightCase};
 
+use format::Refusal;
 use label::words;
-use rows::kind;
+use rows::Kind;
 
-// 0 and a count, or a refusal's number and second number.
+// 0 and a count, or a refusal's number and second number. Numbers and no enum: C has it so (include/argo.h).
 #[repr(C)]
-#[derive(Clone, Copy)]
+#[derive(Clone, Copy, Debug, PartialEq, Eq)]
 pub struct Answer {
     pub number: u64,
     pub second: u64,
 }
 
-// A row that was looked at: its four words, and the float of a float's row; all 0 where it is refused.
+// A row that was looked at: its four words, and the float of a float's row; all 0 where it is refused. Its kind is a number
+// as C has it too.
 #[repr(C)]
-#[derive(Clone, Copy)]
+#[derive(Clone, Copy, Debug)]
 pub struct Seen {
     pub number: u64,
     pub second: u64,
@@ -39,10 +44,55 @@ pub struct Seen {
 
 // Where a part stands in the lent bytes.
 #[repr(C)]
-#[derive(Clone, Copy)]
+#[derive(Clone, Copy, Debug, PartialEq, Eq)]
 pub struct Place {
     pub start: u64,
     pub len: u64,
+}
+
+impl From<Result<usize, Refusal>> for Answer {
+    ghost from_gives = { Numbers };
+
+    fn from(answer: Result<usize, Refusal>) -> Answer {
+        match answer {
+            Ok(count) => Answer {
+                number: 0,
+                second: count as u64,
+            },
+            Err(refusal) => Answer {
+                number: refusal.number(),
+                second: refusal.second(),
+            },
+        }
+    }
+}
+
+// A row that is refused.
+impl From<Refusal> for Seen {
+    ghost from_gives = { λ refusal result. Shows result (refused refusal) };
+
+    fn from(refusal: Refusal) -> Seen {
+        Seen {
+            number: refusal.number(),
+            second: refusal.second(),
+            kind: 0,
+            a: 0,
+            b: 0,
+            node: 0,
+            value: 0.0,
+        }
+    }
+}
+
+impl From<format::Place> for Place {
+    ghost from_gives = { λ place result. as_place result ≡ place_of place };
+
+    fn from(place: format::Place) -> Place {
+        Place {
+            start: place.start as u64,
+            len: place.size as u64,
+        }
+    }
 }
 
 // Checks a table.
@@ -51,11 +101,7 @@ pub fn argo_check(table: &[u8], work: &mut [u32]) -> Answer
     ensures second_value { result.second ≡ second (λ s. s.count) (check (length work.old) table.now) }
     ensures work_after { work.new ≡ zeros (length work.old) }
 {
-    let r = table::check(table, work);
-    Answer {
-        number: r.number,
-        second: r.second,
-    }
+    Answer::from(table::check(table, work))
 }
 
 // Reads a message into rows.
@@ -65,11 +111,7 @@ pub fn argo_read(table: &[u8], message: &[u8], rows: &mut [u64], work: &mut [u32
     ensures rows_after { rows.new ≡ output words_of (length rows.old) (read (length work.old) table.now message.now (length rows.old)) }
     ensures work_after { work.new ≡ zeros (length work.old) }
 {
-    let r = reader::read(table, message, rows, work);
-    Answer {
-        number: r.number,
-        second: r.second,
-    }
+    Answer::from(reader::read(table, message, rows, work))
 }
 
 // Writes rows as a message.
@@ -87,27 +129,17 @@ pub fn argo_write(
     ensures work_after { work.new ≡ zeros (length work.old) }
     ensures demands { Demands (length work.old) table.now modes rows.now pool.now (length out.old) result.number result.second out.new }
 {
-    let r = writer::write(table, modes, rows, pool, out, work);
-    Answer {
-        number: r.number,
-        second: r.second,
-    }
-}
-
-fn truth_kind(t: bool) -> u64
-    ensures { ok (bare result 0) ≡ seen (Truth t) }
-{
-    if t { kind::TRUE } else { kind::FALSE }
+    Answer::from(writer::write(table, modes, rows, pool, out, work))
 }
 
 // A row by its words.
-fn row(kind: u64, a: u64, b: u64, node: u64, value: f64) -> Seen
-    ensures { result ≡ record { number = 0; second = 0; kind = kind; a = a; b = b; node = node; value = value } }
+fn row(kind: Kind, a: u64, b: u64, node: u64, value: f64) -> Seen
+    ensures { result ≡ record { number = 0; second = 0; kind = word_of kind; a = a; b = b; node = node; value = value } }
 {
     Seen {
         number: 0,
         second: 0,
-        kind,
+        kind: u64::from(kind),
         a,
         b,
         node,
@@ -115,34 +147,35 @@ fn row(kind: u64, a: u64, b: u64, node: u64, value: f64) -> Seen
     }
 }
 
-fn refused(number: u64) -> Seen
-    ensures { Shows result (refuse number 0) }
+// A row that has a place.
+fn placed(kind: Kind, place: format::Place, node: u64) -> Seen
+    ensures { result ≡ record { number = 0; second = 0; kind = word_of kind; a = place.start; b = place.size; node = node; value = float_of 0 } }
 {
-    Seen {
-        number,
-        second: 0,
-        kind: 0,
-        a: 0,
-        b: 0,
-        node: 0,
-        value: 0.0,
-    }
+    row(kind, place.start as u64, place.size as u64, node, 0.0)
+}
+
+fn truth_kind(t: bool) -> Kind
+    ensures { bare (word_of result) 0 ≡ seen (Truth t) }
+{
+    if t { Kind::True } else { Kind::False }
 }
 
 // What was seen, in words, under the row's node.
-fn shown(s: rows::Seen, node: u64) -> Seen
-    requires { RightCase s }
-    ensures { Shows result (seen_under node s) }
+fn shown(seen: rows::Seen, node: u64) -> Seen
+    requires { RightCase seen }
+    ensures { Shows result (ok (seen_under node seen)) }
 {
-    match s {
-        rows::Seen::Null => row(kind::NULL, 0, 0, node, 0.0),
-        rows::Seen::Absent => row(kind::ABSENT, 0, 0, node, 0.0),
+    match seen {
+        rows::Seen::Null => row(Kind::Null, 0, 0, node, 0.0),
+        rows::Seen::Absent => row(Kind::Absent, 0, 0, node, 0.0),
         rows::Seen::Truth(t) => row(truth_kind(t), 0, 0, node, 0.0),
-        rows::Seen::Integer(n) => row(kind::INTEGER, words::word_of(n), 0, node, 0.0),
-        rows::Seen::Float(f, bits) => row(kind::FLOAT, bits, 0, node, f),
-        rows::Seen::Place { kind, start, size } => row(kind, start as u64, size as u64, node, 0.0),
-        rows::Seen::Count { kind, count } => row(kind, count, 0, node, 0.0),
-        rows::Seen::Refused { number } => refused(number),
+        rows::Seen::Integer(n) => row(Kind::Integer, words::word_of(n), 0, node, 0.0),
+        rows::Seen::Float(f, bits) => row(Kind::Float, bits, 0, node, f),
+        rows::Seen::String(place) => placed(Kind::String, place, node),
+        rows::Seen::Bytes(place) => placed(Kind::Bytes, place, node),
+        rows::Seen::Fixed(place) => placed(Kind::Fixed, place, node),
+        rows::Seen::Record(fields) => row(Kind::Record, fields, 0, node, 0.0),
+        rows::Seen::Array(entries) => row(Kind::Array, entries, 0, node, 0.0),
     }
 }
 
@@ -150,18 +183,18 @@ fn shown(s: rows::Seen, node: u64) -> Seen
 pub fn argo_look(rows: &[u64], bytes: &[u8], index: usize) -> Seen
     ensures { Shows result (look rows.now (length bytes.now) index) }
 {
-    shown(rows::look(rows, bytes, index), rows::node_at(rows, index))
+    match rows::look(rows, bytes, index) {
+        Ok(seen) => shown(seen, rows::node_at(rows, index)),
+        Err(refusal) => Seen::from(refusal),
+    }
 }
 
 // Where the part of the bytes that a row names stands, whatever its node; the empty one at 0 if it names none.
 pub fn argo_part(rows: &[u64], bytes: &[u8], index: usize) -> Place
     ensures { Stands rows.now bytes.now index result }
 {
-    let rows::Placed::At(start, size) = rows::place_at(rows, bytes, index) else {
-        return Place { start: 0, len: 0 };
-    };
-    Place {
-        start: start as u64,
-        len: size as u64,
+    match rows::place_at(rows, bytes, index) {
+        Some(place) => Place::from(place),
+        None => Place { start: 0, len: 0 },
     }
 }

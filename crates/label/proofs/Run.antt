@@ -1,11 +1,10 @@
 -- A number's bytes before its last one, each of which says that more follow. Assumes nothing.
-use Rattle.std.proofs.Common.{◌≡◌, ℕ, zero, suc, ◌+◌, ◌-◌, ◌*◌, ◌%◌, ◌^◌, ◌<◌, ◌≤◌, List, [], ◌∷◌, ◌++◌, length, get_or, take, sym, refl, ap, ◌∙◌, add-one, arith, drop_of_length-le, length-take-le, take-suc}
+use Rattle.std.proofs.Common.{Some, None, ◌≡◌, ℕ, zero, suc, ◌+◌, ◌-◌, ◌*◌, ◌%◌, ◌^◌, ◌<◌, ◌≤◌, List, [], ◌∷◌, ◌++◌, length, get_or, take, sym, refl, ap, ◌∙◌, add-one, arith, drop_of_length-le, length-take-le, take-suc}
 use mathlib.Core.List.{foldr, foldr-append}
 use mathlib.Core.Option.{Option, none, some}
 use lib.Seq.{slice, slice_empty, slice-cons, length-slice, drop-append-le}
 use Rattle.format.specs.Label.{continued, read_septets, within64, read_varint}
 use Rattle.laws.specs.Facts.{some_pair, absurd-some}
-use Rattle.label.specs.declared.cursor.Varint.TheVariants.{Number, Broken}
 use Rattle.label.specs.Cursor.{answer, cursor, up_to}
 use Rattle.label.specs.Laws.{read-nil, read_small, read-big, within-some, within-over, continued-some, continued-parts}
 
@@ -111,13 +110,13 @@ module _ (s : List ℕ) where
         pub joined-next : 0 < acc → Joined s at last end (i - 1) (get_or s (i - 1) 0 % 128 + 128 * acc)
         joined-next p = lower ∙ ap (λ o. foldr continued o (slice at (i - 1) s)) (continued-some (get_or s (i - 1) 0) acc (slice (last + 1) end s) p)
 
-        pub joined-over : (0 < acc → 2 ^ 64 ≤ get_or s (i - 1) 0 % 128 + 128 * acc) → Broken ≡ answer Number Broken end (within64 (up_to s at last end))
+        pub joined-over : (0 < acc → 2 ^ 64 ≤ get_or s (i - 1) 0 % 128 + 128 * acc) → None ≡ answer end (within64 (up_to s at last end))
         unfolding answer
         joined-over f =
             let o : Over (foldr continued (continued (get_or s (i - 1) 0) (some (acc, slice (last + 1) end s))) (slice at (i - 1) s)) = over-run _ (slice at (i - 1) s) (over-next (get_or s (i - 1) 0) acc (slice (last + 1) end s) f) in
             rw (lower, over-within _ o)
 
-      pub joined-all : (acc : ℕ) → Joined s at last end at acc → acc < 2 ^ 64 → last < end → Number acc (cursor (last + 1) end) ≡ answer Number Broken end (within64 (up_to s at last end))
+      pub joined-all : (acc : ℕ) → Joined s at last end at acc → acc < 2 ^ 64 → last < end → Some (acc, cursor (last + 1) end) ≡ answer end (within64 (up_to s at last end))
       unfolding answer
       joined-all acc j h inside =
           let l : end - length (slice (last + 1) end s) ≡ last + 1 = omega (arith, length-slice (last + 1) end s within) in

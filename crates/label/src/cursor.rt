@@ -2,7 +2,6 @@
 ghost use Rattle.std.specs.Prelude.{◌≡◌, ◌-◌, ◌<◌, ◌≤◌, length};
 ghost use Rattle.format.specs.Label.{within64};
 ghost use Rattle.label.specs.Cursor.{varint_at, label_at, answer, up_to, LastByte};
-ghost use Rattle.label.specs.declared.cursor.Varint.TheVariants.{Number, Broken};
 
 use super::words;
 
@@ -13,69 +12,44 @@ pub struct Cursor {
     pub end: usize,
 }
 
-// What stands at a cursor, and the cursor moved past it.
-#[derive(Clone, Copy)]
-pub enum Varint {
-    Number(u64, Cursor),
-    Broken,
-}
-
-#[derive(Clone, Copy)]
-pub enum Label {
-    Got(i64, Cursor),
-    Bad,
-}
-
 impl Cursor {
     // How many bytes are left before the end.
     pub fn left(self) -> usize
         ensures { result ≡ self.end - self.at }
     {
-        if self.at < self.end {
-            self.end - self.at
-        } else {
-            0
-        }
+        self.end.saturating_sub(self.at)
     }
 
-    // Broken where the number is cut by the end, over 64 bits, or not in the fewest bytes.
-    pub fn varint(self, s: &[u8]) -> Varint
+    // The number that stands here, and the cursor moved past it; `None` where it is cut by the end, over 64 bits, or not
+    // in the fewest bytes.
+    pub fn varint(self, s: &[u8]) -> Option<(u64, Cursor)>
         requires { self.end ≤ length s.now }
         ensures { result ≡ varint_at s.now self }
     {
-        let at = self.at;
-        let end = self.end;
+        let Cursor { at, end } = self;
         if end <= at {
-            return Varint::Broken;
+            return None;
         }
         // most numbers have one byte
-        let first = wide(s[at]);
+        let first = u64::from(s[at]);
         if first < 128 {
-            let next = at + 1;
-            return Varint::Number(first, Cursor { at: next, end });
+            return Some((first, Cursor { at: at + 1, end }));
         }
         let last = last_byte(s, at, end);
         if end <= last {
-            return Varint::Broken;
+            return None;
         }
         joined(s, at, last, end)
     }
 
-    pub fn label(self, s: &[u8]) -> Label
+    // The same of a label.
+    pub fn label(self, s: &[u8]) -> Option<(i64, Cursor)>
         requires { self.end ≤ length s.now }
         ensures { result ≡ label_at s.now self }
     {
-        let Varint::Number(z, next) = self.varint(s) else {
-            return Label::Bad;
-        };
-        Label::Got(words::unzigzag(z), next)
+        let (z, next) = self.varint(s)?;
+        Some((words::unzigzag(z), next))
     }
-}
-
-fn wide(x: u8) -> u64
-    ensures { result ≡ x }
-{
-    x as u64
 }
 
 // The place of the number's last byte, the first without a top bit; `end` if that is not among the
@@ -84,38 +58,33 @@ fn last_byte(s: &[u8], at: usize, end: usize) -> usize
     requires { end ≤ length s.now }
     ensures { LastByte s.now at end result }
 {
-    let mut i = at;
-    while i < end {
+    for i in at..end {
         if s[i] < 128 {
             return i;
         }
         if 9 <= i - at {
             return end;
         }
-        i += 1;
     }
     end
 }
 
 // The number in the bytes from `at` to `last`, joined from the last one, its highest bits, down.
-fn joined(s: &[u8], at: usize, last: usize, end: usize) -> Varint
+fn joined(s: &[u8], at: usize, last: usize, end: usize) -> Option<(u64, Cursor)>
     requires { (at ≤ last) × (last < end) × (end ≤ length s.now) }
-    ensures { result ≡ answer Number Broken end (within64 (up_to s.now at last end)) }
+    ensures { result ≡ answer end (within64 (up_to s.now at last end)) }
 {
-    let mut i = last;
-    let mut acc = wide(s[last]);
-    while at < i {
-        i -= 1;
+    let mut acc = u64::from(s[last]);
+    for i in (at..last).rev() {
         // a 0 here would be a byte too many
         if acc == 0 {
-            return Varint::Broken;
+            return None;
         }
-        let d = wide(s[i]) % 128;
-        if (18446744073709551615 - d) / 128 < acc {
-            return Varint::Broken;
+        let d = u64::from(s[i]) % 128;
+        if (u64::MAX - d) / 128 < acc {
+            return None;
         }
         acc = d + 128 * acc;
     }
-    let next = last + 1;
-    Varint::Number(acc, Cursor { at: next, end })
+    Some((acc, Cursor { at: last + 1, end }))
 }

@@ -6,6 +6,6 @@ pub mod cursor;
 pub mod put;
 pub mod words;
 
-pub use cursor::{Cursor, Label, Varint};
+pub use cursor::Cursor;
 pub use put::{label_size, put_label, put_varint, varint_size};
 pub use words::{integer_of, unzigzag, word_of, zigzag};

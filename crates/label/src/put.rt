@@ -9,7 +9,7 @@ use super::words;
 pub fn varint_size(z: u64) -> usize
     ensures { result ≡ length (varint z) }
 {
-    let zeros = u64::leading_zeros(z) as usize;
+    let zeros = z.leading_zeros() as usize;
     (640 - 9 * zeros) / 64
 }
 
@@ -28,6 +28,7 @@ pub fn put_varint(out: &mut [u8], at: usize, z: u64) -> usize
 {
     let mut i = at;
     let mut v = z;
+    // no range to go over: v says when to stop, and i is where the last byte goes
     while v >= 128 {
         out[i] = (128 + v % 128) as u8;
         v /= 128;

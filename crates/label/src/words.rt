@@ -1,5 +1,4 @@
-// Two's complement words and zig-zag. A number below zero goes through a wrapping subtract from 0,
-// so that -2^63 is never negated.
+// Two's complement words and zig-zag.
 ghost use Rattle.std.specs.Prelude.{◌≡◌};
 ghost use Rattle.format.specs.Label.{word, integer, zigzag, unzigzag};
 
@@ -7,38 +6,22 @@ ghost use Rattle.format.specs.Label.{word, integer, zigzag, unzigzag};
 pub fn word_of(n: i64) -> u64
     ensures { result ≡ word n }
 {
-    if n >= 0 {
-        n as u64
-    } else {
-        let m = (-1 - n) as u64;
-        std::num::wrapping_sub_u64(0, m + 1)
-    }
+    n.cast_unsigned()
 }
 
 // The integer whose two's complement word is w.
 pub fn integer_of(w: u64) -> i64
     ensures { result ≡ integer w }
 {
-    if w < 9223372036854775808 {
-        w as i64
-    } else {
-        // the magnitude, 1 to 2^63: one comes off before the cast
-        let m = std::num::wrapping_sub_u64(0, w);
-        -1 - ((m - 1) as i64)
-    }
+    w.cast_signed()
 }
 
-// 2n, or -2n-1 below zero.
+// 2n, or -2n-1 below zero: 2k+1 for -1-k, the word of which is k with each bit turned.
 pub fn zigzag(n: i64) -> u64
     ensures { result ≡ zigzag n }
 {
     let w = word_of(n);
-    if w < 9223372036854775808 {
-        2 * w
-    } else {
-        let m = std::num::wrapping_sub_u64(0, w);
-        2 * (m - 1) + 1
-    }
+    if n >= 0 { 2 * w } else { 2 * !w + 1 }
 }
 
 // The integer whose zig-zag is z.
@@ -49,6 +32,6 @@ pub fn unzigzag(z: u64) -> i64
     if z % 2 == 0 {
         integer_of(half)
     } else {
-        integer_of(std::num::wrapping_sub_u64(0, half + 1))
+        integer_of(!half)
     }
 }

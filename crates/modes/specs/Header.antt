@@ -1,9 +1,7 @@
--- What the enum of a header means.
-use Rattle.std.specs.Prelude.{ℕ}
+-- What the modes of a header byte, or none, mean as an answer.
+use Rattle.std.specs.Prelude.{ℕ, Option, Some, None}
 use Rattle.format.specs.Answer.{Answer, ok, refuse}
-use Rattle.modes.specs.declared.Header.{Header}
-use Rattle.modes.specs.declared.Header.TheVariants.{Modes, Other}
 
-abbrev pub header_of : Header → Answer ℕ
-header_of (Modes modes) = ok modes
-header_of Other = refuse 21 0
+abbrev pub header_of : Option ℕ → Answer ℕ
+header_of (Some modes) = ok modes
+header_of None = refuse 21 0

@@ -11,8 +11,8 @@ use Rattle.format.specs.Answer.{Answer, ok, refuse, ◌>>=◌}
 use Rattle.format.specs.Read.{Reading, in_message, State, at_key}
 use Rattle.laws.specs.Facts.{by-eq}
 use Rattle.label.specs.declared.cursor.Cursor.{Cursor}
-use Rattle.read_pieces.specs.declared.Given.{Given}
-use Rattle.read_pieces.specs.declared.Given.TheVariants.{Block, Nothing}
+use Rattle.std.specs.Prelude as code
+use Rattle.std.specs.Prelude.{Some, None}
 use Rattle.read_pieces.specs.Chain.{waiting_of}
 use Rattle.read_pieces.specs.Pieces.{reading_of, Inside, Blocks, blocks_of, Left, Gave}
 use Rattle.store.specs.Store.{Store, lookup, put, opened, advanced, rested}
@@ -83,18 +83,18 @@ module _ {X : Type 0} (m : List ℕ) (k : ℕ) (f : Reading → Answer (X × Rea
   core-not w r e = record { took = λ most n. took-along (rw e) (took-refuses r) }
 
   -- in the key's block
-  module _ {w w₁ : List ℕ} {r : Given} (o : Opened m k w w₁ r) (i : Inside m c) where
+  module _ {w w₁ : List ℕ} {r : code.Option Cursor} (o : Opened m k w w₁ r) (i : Inside m c) where
     touched : (most n : ℕ) → Took m most w w₁ n (given_of c r) (touch (in_message m) k (state_of m most w c n))
     touched most n = (o.takes c i).took most n
 
-    pub block_none : r ≡ Nothing → Takes m w w₁ c (refuse 29 0) (at_key (in_message m) false k f)
+    pub block_none : r ≡ None → Takes m w w₁ c (refuse 29 0) (at_key (in_message m) false k f)
     block_none q = record { took = λ most n. took-along (at-key (in_message m) k f (state_of m most w c n)) (then-takes-not _ (touched most n) _ (ap (given_of c) q)) }
 
-    pub block-not : {p : Cursor} (e : ℕ) → r ≡ Block p → f (reading_of p) ≡ refuse e 0 → Takes m w w₁ c (refuse e 0) (at_key (in_message m) false k f)
+    pub block-not : {p : Cursor} (e : ℕ) → r ≡ Some p → f (reading_of p) ≡ refuse e 0 → Takes m w w₁ c (refuse e 0) (at_key (in_message m) false k f)
     unfolding ◌>>=◌
     block-not e q h = record { took = λ most n. took-along (at-key (in_message m) k f (state_of m most w c n)) (then-takes _ (touched most n) _ (ap (given_of c) q) (took-along (rw h) (took-refuses e))) }
 
-    pub block-takes : {w₂ : List ℕ} {p : Cursor} (x : X) (next : Cursor) → r ≡ Block p → f (reading_of p) ≡ ok (x, reading_of next) → next.end ≡ p.end → p.at ≤ next.at → Inside m next → Moved w₁ w₂ (advanced k next.at)
+    pub block-takes : {w₂ : List ℕ} {p : Cursor} (x : X) (next : Cursor) → r ≡ Some p → f (reading_of p) ≡ ok (x, reading_of next) → next.end ≡ p.end → p.at ≤ next.at → Inside m next → Moved w₁ w₂ (advanced k next.at)
         → Takes m w w₂ c (ok (x, c)) (at_key (in_message m) false k f)
     unfolding ◌>>=◌
     block-takes {w₂} {p} x next q h z b y v = record { took = λ most n. took-along (at-key (in_message m) k f (state_of m most w c n)) (then-takes _ (touched most n) _ (ap (given_of c) q) (rw h (after most n))) }
@@ -110,13 +110,13 @@ module _ {X : Type 0} (m : List ℕ) (k : ℕ) (f : Reading → Answer (X × Rea
 -- ---- the block of a key
 
 -- it has one
-pub block-known : {m w : List ℕ} (k : ℕ) (p : Cursor) → Ready m w → lookup k (store_of w).slots ≡ some (reading_of p) → Opened m k w w (Block p)
+pub block-known : {m w : List ℕ} (k : ℕ) (p : Cursor) → Ready m w → lookup k (store_of w).slots ≡ some (reading_of p) → Opened m k w w (Some p)
 unfolding touch given
 block-known {m} {w} k p g e = record { takes = λ c i. record { took = λ most n. took-along (rw e) (took-ends (reading_of p) c g i) }; inside = g.slots k (reading_of p) e }
 
 module _ {m w : List ℕ} (k : ℕ) (e : lookup k (store_of w).slots ≡ none) where
   -- it gets none
-  pub block-missing : [] ≡ waiting_of m (store_of w).rest.at (store_of w).rest.end → Opened m k w w Nothing
+  pub block-missing : [] ≡ waiting_of m (store_of w).rest.at (store_of w).rest.end → Opened m k w w None
   unfolding touch given
   block-missing h = record { takes = λ c i. record { took = λ most n. took-along (rw (e, ← h)) (took-refuses 29) }; inside = tt }
 
@@ -143,7 +143,7 @@ module _ {m w : List ℕ} (k : ℕ) (e : lookup k (store_of w).slots ≡ none) w
     ready-given : Ready m w₃
     ready-given = record { small = g.small; good = d₂.good; blocks = rw both b; slots = slot-given; starts = start-given }
 
-    pub block-given : Opened m k w w₃ (Block p)
+    pub block-given : Opened m k w w₃ (Some p)
     unfolding touch given
     block-given = record {
       takes = λ c y. record { took = λ most n. rw (e, ← h) (record { answer = refl; left = record { state = rw both; ready = ready-given; inside = y; same = same_then (same-words d) (same_then (same-words d₁) (same-words d₂)) } }) };
@@ -155,21 +155,21 @@ module _ {m w : List ℕ} (k : ℕ) (e : lookup k (store_of w).slots ≡ none) w
 pub inside-small : {m : List ℕ} {p : Cursor} → length m ≤ 65536 → Inside m p → (p.at < 2 ^ 32) × (p.end < 2 ^ 32)
 inside-small h i = (omega (arith, i.ordered, i.inside), omega (arith, i.inside))
 
-pub gave_left : {m : List ℕ} {at end : ℕ} {r : Given} {p : Cursor} → Gave m at end r → r ≡ Block p → Inside m p × Blocks m p.end end
-gave_left {m} {end = end} y q = subst (λ (x : Given). Left m end x) q y.left
+pub gave_left : {m : List ℕ} {at end : ℕ} {r : code.Option Cursor} {p : Cursor} → Gave m at end r → r ≡ Some p → Inside m p × Blocks m p.end end
+gave_left {m} {end = end} y q = subst (λ (x : code.Option Cursor). Left m end x) q y.left
 
 module _ {m w : List ℕ} {at end : ℕ} (z : ◌≡◌ {A = Reading} (record { at = at; end = end }) (rest_of w)) where
   pub rest-blocks : Ready m w → Blocks m at end
   unfolding store_of
   rest-blocks g = subst (λ (r : Reading). Blocks m r.at r.end) (sym z) g.blocks
 
-  module _ {r : Given} (k : ℕ) (e : lookup k (store_of w).slots ≡ none) (y : Gave m at end r) where
-    pub gave-none : r ≡ Nothing → Opened m k w w Nothing
+  module _ {r : code.Option Cursor} (k : ℕ) (e : lookup k (store_of w).slots ≡ none) (y : Gave m at end r) where
+    pub gave-none : r ≡ None → Opened m k w w None
     unfolding store_of
     gave-none q = block-missing k e (sym (ap (blocks_of m end) q) ∙ y.is ∙ ap (λ (p : Reading). waiting_of m p.at p.end) z)
 
-    pub gave-first : {p : Cursor} {w₁ w₂ w₃ : List ℕ} → r ≡ Block p → k < 32 → Ready m w → Moved w w₁ (opened k (reading_of p)) → Moved w₁ w₂ (rested (record { at = p.end; end = (rest_of w₁).end })) → Begun w₂ w₃ k p.at
-        → Opened m k w w₃ (Block p)
+    pub gave-first : {p : Cursor} {w₁ w₂ w₃ : List ℕ} → r ≡ Some p → k < 32 → Ready m w → Moved w w₁ (opened k (reading_of p)) → Moved w₁ w₂ (rested (record { at = p.end; end = (rest_of w₁).end })) → Begun w₂ w₃ k p.at
+        → Opened m k w w₃ (Some p)
     unfolding store_of
     gave-first {p} {w₁} {w₂} q kh g v v₁ v₂ =
         let d = moved keeping g.good v in
@@ -183,9 +183,9 @@ module _ {m w : List ℕ} {at end : ℕ} (z : ◌≡◌ {A = Reading} (record { 
         block-given k e p g h i (subst (λ (j : ℕ). Blocks m p.end j) x b) d (subst (λ (j : ℕ). Changes w₁ w₂ (rested (record { at = p.end; end = j }))) x₁ d₁) d₂ v₂.is
         (λ j o. v₂.others (1216 + j) (λ y. o (omega arith)) ∙ v₁.behind (1216 + j) (omega arith) ∙ v.behind (1216 + j) (omega arith))
 
-module _ {m w w₁ : List ℕ} {k : ℕ} {r : Given} {p : Cursor} (o : Opened m k w w₁ r) (q : r ≡ Block p) where
+module _ {m w w₁ : List ℕ} {k : ℕ} {r : code.Option Cursor} {p : Cursor} (o : Opened m k w w₁ r) (q : r ≡ Some p) where
   pub opened_inside : Inside m p
-  opened_inside = subst (λ (x : Given). GivenIn m x) q o.inside
+  opened_inside = subst (λ (x : code.Option Cursor). GivenIn m x) q o.inside
 
   pub opened-start : (c : Cursor) → Inside m c → k < 32 → start_of w₁ k ≤ p.at
   opened-start c i l =

@@ -1,8 +1,7 @@
 -- What was read, and then its row: for each kind of value that has nothing below it. Assumes nothing.
-use mathlib.Core.Logic.{◌⊎◌}
-use mathlib.Core.Path.{◌≡◌, refl, ap, ◌∙◌}
+use mathlib.Core.Logic.{◌⊎◌, inl, inr}
+use mathlib.Core.Path.{◌≡◌, refl, ap, subst}
 use mathlib.Core.Bool.{Bool, true, false}
-use mathlib.Core.Logic.{inl, inr}
 use mathlib.Core.List.{List, [], ◌∷◌}
 use mathlib.Core.Option.{Option}
 use Prim.Native.Nat.{ℕ}
@@ -16,52 +15,52 @@ use Rattle.format.specs.Table.{Leaf, string, varint, float64, bytes, fixed, Held
 use Rattle.format.specs.Read.{in_message, State, is_label, truth_of, little_endian, read_number, read_bytes, at_key, from_key, no_label, one_row, leaf, wire}
 use Rattle.laws.specs.Facts.{bind-then}
 use Rattle.label.specs.declared.cursor.Cursor.{Cursor}
-use Rattle.label.specs.declared.cursor.Label.{Label}
-use Rattle.label.specs.declared.cursor.Label.TheVariants.{Got, Bad}
+use Rattle.std.specs.Prelude as code
+use Rattle.std.specs.Prelude.{Result, Ok, Err}
+use Rattle.format.specs.Refusal.{answered}
+use Rattle.format.specs.declared.refusal.Refusal.{Refusal}
+use Rattle.format.specs.declared.refusal.Refusal.TheVariants.{LabelPlace}
+use Rattle.format.specs.declared.place.Place as part
 use Rattle.read_leaf.specs.declared.Progress.{Progress}
-use Rattle.read_leaf.specs.declared.Progress.TheVariants.{Refused}
-use Rattle.read_leaf.specs.declared.front.Front.{Front}
-use Rattle.read_leaf.specs.declared.block.Part.{Part}
-use Rattle.read_leaf.specs.declared.block.Part.TheVariants as part
-use Rattle.read_leaf.specs.declared.block.Number.{Number}
-use Rattle.read_leaf.specs.declared.block.Number.TheVariants as number
 use Rattle.read_leaf.specs.State.{most_rows, Walks, Does, Took, Takes}
 use Rattle.read_leaf.specs.Does.{along, refuses}
 use Rattle.read_leaf.specs.Takes.{took-ready, took-inside, then-does, then-refuses}
-use Rattle.read_leaf.specs.Meaning.{front_of, label_of, part_of, number_of, part_refusal, number_refusal, held_leaf, text_row}
-use Rattle.table.specs.declared.nodes.Leaf as code
+use Rattle.read_leaf.specs.Meaning.{front_of, part_of, held_leaf, text_row}
+use Rattle.table.specs.declared.nodes.Leaf as held
 use Rattle.read_leaf.specs.Promises.{Owns, Bare, PutsRow, PutsPart, Boolean, Unlabelled, text_of}
 
 -- something was read, and its row is put behind it
-module _ {X : Type 0} {m w w₁ l l₁ : List ℕ} {n : ℕ} {x : X} {c : Cursor} {r : Answer (X × Cursor)} {s : Progress} (a : Answer (X × State (in_message m))) (t : Took m (most_rows (length l)) w w₁ n r a) (q : r ≡ ok (x, c)) where
+module _ {X : Type 0} {m w w₁ l l₁ : List ℕ} {n : ℕ} {x : X} {c : Cursor} {r : Answer (X × Cursor)} {s : Result Progress Refusal} (a : Answer (X × State (in_message m))) (t : Took m (most_rows (length l)) w w₁ n r a) (q : r ≡ ok (x, c)) where
   then-row : {ws : List ℕ} (i : ℕ) (says : X → Says Place) → PutsRow n ws c l l₁ s → row_words (row i (says x)) ≡ ws → Does m (most_rows (length l)) w w₁ n l l₁ s (a >>= (λ y. one_row (in_message m) i (says y.0) y.1))
   then-row i says p v = then-does a t (λ y. one_row (in_message m) i (says y.0) y.1) q (p.does m w₁ i (says x) v (took-ready a t q) (took-inside a t q))
 
-module _ {n kind node : ℕ} {p : Part} {l l₁ : List ℕ} where
-  pub part-not : {e : ℕ} {k : Progress} → p ≡ part.Refused e → k ≡ part_refusal p → PutsPart n kind node p l l₁ k
-  part-not q h = rw (h ∙ ap part_refusal q) (record { does = λ m w w' a t. then-refuses a t _ (ap part_of q) })
+-- or it was refused
+module _ {m w w₁ l l₁ : List ℕ} {n : ℕ} {p : part.Place} {c : Cursor} {r : Result (part.Place × Cursor) Refusal} (a : Answer (Place × State (in_message m))) (t : Took m (most_rows (length l)) w w₁ n (part_of r) a) where
+  then-part : {kind node : ℕ} {s : Result Progress Refusal} → r ≡ Ok (p, c) → PutsPart n kind node p c l l₁ s → Does m (most_rows (length l)) w w₁ n l l₁ s (a >>= (λ x. one_row (in_message m) node (placed kind x.0) x.1))
+  then-part q d = d.does m w w₁ a (subst (λ (x : Result (part.Place × Cursor) Refusal). Took m (most_rows (length l)) w w₁ n (part_of x) a) q t)
 
-  pub part-row : {start size : ℕ} {c : Cursor} {s : Progress} → p ≡ part.At start size c → PutsRow n (kind ∷ start ∷ size ∷ node ∷ []) c l l₁ s → PutsPart n kind node p l l₁ s
+module _ {n kind node : ℕ} {p : part.Place} {c : Cursor} {l l₁ : List ℕ} where
+  pub part-row : {s : Result Progress Refusal} → PutsRow n (kind ∷ p.start ∷ p.size ∷ node ∷ []) c l l₁ s → PutsPart n kind node p c l l₁ s
   unfolding row_words says_words
-  part-row q d = record { does = λ m w w' a t. then-row a t (ap part_of q) node (λ v. placed kind v) d refl }
+  part-row d = record { does = λ m w w' a t. then-row a t refl node (λ v. placed kind v) d refl }
 
 -- ---- a BOOLEAN
 
-module _ {m : List ℕ} {node : ℕ} {front : Front} {c : Cursor} {n : ℕ} {l l₁ : List ℕ} {r : Label} (o : Owns m front c r) where
-  pub boolean-not : r ≡ Bad → Boolean m node front c n l l₁ (Refused 23)
+module _ {m : List ℕ} {node : ℕ} {front : code.Option ℤ} {c : Cursor} {n : ℕ} {l l₁ : List ℕ} {r : Result (ℤ × Cursor) Refusal} (o : Owns m front c r) where
+  pub boolean-not : {e : Refusal} → r ≡ Err e → Boolean m node front c n l l₁ (Err e)
   unfolding wire
-  boolean-not q = record { does = λ modes held w g. then-refuses _ ((o.takes w g).took (most_rows (length l)) n) _ (ap label_of q) }
+  boolean-not q = record { does = λ modes held w g. then-refuses _ ((o.takes w g).took (most_rows (length l)) n) _ (ap answered q) }
 
-  pub boolean-24 : {v : ℤ} {next : Cursor} → r ≡ Got v next → truth_of v ≡ refuse 24 0 → Boolean m node front c n l l₁ (Refused 24)
+  pub boolean-24 : {v : ℤ} {next : Cursor} → r ≡ Ok (v, next) → truth_of v ≡ refuse 24 0 → Boolean m node front c n l l₁ (Err LabelPlace)
   unfolding wire ◌>>=◌
-  boolean-24 q e = record { does = λ modes held w g. then-does _ ((o.takes w g).took (most_rows (length l)) n) _ (ap label_of q) (rw e (refuses 24)) }
+  boolean-24 q e = record { does = λ modes held w g. then-does _ ((o.takes w g).took (most_rows (length l)) n) _ (ap answered q) (rw e (refuses LabelPlace refl)) }
 
-  pub boolean-row : {v : ℤ} {next : Cursor} {s : Progress} (kind : ℕ) → r ≡ Got v next → truth_of v ≡ ok kind → PutsRow n (kind ∷ 0 ∷ 0 ∷ node ∷ []) next l l₁ s → Boolean m node front c n l l₁ s
+  pub boolean-row : {v : ℤ} {next : Cursor} {s : Result Progress Refusal} (kind : ℕ) → r ≡ Ok (v, next) → truth_of v ≡ ok kind → PutsRow n (kind ∷ 0 ∷ 0 ∷ node ∷ []) next l l₁ s → Boolean m node front c n l l₁ s
   unfolding wire ◌>>=◌ row_words says_words
   boolean-row kind q e p = record {
     does = λ modes held w g.
         let t = (o.takes w g).took (most_rows (length l)) n in
-        then-does _ t _ (ap label_of q) (rw e (p.does m w node (bare kind 0) refl (took-ready _ t (ap label_of q)) (took-inside _ t (ap label_of q))));
+        then-does _ t _ (ap answered q) (rw e (p.does m w node (bare kind 0) refl (took-ready _ t (ap answered q)) (took-inside _ t (ap answered q))));
   }
 
 -- the tests of its label, as the code makes them of k
@@ -81,69 +80,81 @@ module _ (v : ℤ) {k : ℤ} (e : k ≡ v) where
 
 -- ---- a value with no label
 
-module _ {m w l l₁ : List ℕ} {most n : ℕ} {front : Front} {v : Bool} (b : Bare front v) (a : Answer (List (Row Place) × State (in_message m))) where
-  front-not : v ≡ false → Does m most w w n l l₁ (Refused 24) (no_label (in_message m) (front_of front) >> a)
+module _ {m w l l₁ : List ℕ} {most n : ℕ} {front : code.Option ℤ} {v : Bool} (b : Bare front v) (a : Answer (List (Row Place) × State (in_message m))) where
+  front-not : v ≡ false → Does m most w w n l l₁ (Err LabelPlace) (no_label (in_message m) (front_of front) >> a)
   unfolding need_at ◌>>◌
-  front-not e = rw (b.is m, e) (refuses 24)
+  front-not e = rw (b.is m, e) (refuses LabelPlace refl)
 
-  front-then : {w₁ : List ℕ} {s : Progress} → v ≡ true → Does m most w w₁ n l l₁ s a → Does m most w w₁ n l l₁ s (no_label (in_message m) (front_of front) >> a)
+  front-then : {w₁ : List ℕ} {s : Result Progress Refusal} → v ≡ true → Does m most w w₁ n l l₁ s a → Does m most w w₁ n l l₁ s (no_label (in_message m) (front_of front) >> a)
   unfolding need_at ◌>>◌
   front-then e d = rw (b.is m, e) d
 
-module _ (m : List ℕ) (modes key node : ℕ) {front : Front} (w : List ℕ) (c : Cursor) (n : ℕ) {l l₁ : List ℕ} {v : Bool} (b : Bare front v) where
-  pub varint-24 : v ≡ false → Unlabelled m modes key varint node front w w c n l l₁ (Refused 24)
+module _ (m : List ℕ) (modes key node : ℕ) {front : code.Option ℤ} (w : List ℕ) (c : Cursor) (n : ℕ) {l l₁ : List ℕ} {v : Bool} (b : Bare front v) where
+  pub varint-24 : v ≡ false → Unlabelled m modes key varint node front w w c n l l₁ (Err LabelPlace)
   unfolding leaf
   varint-24 e = record { does = λ held. front-not b _ e }
 
-  pub float-24 : v ≡ false → Unlabelled m modes key float64 node front w w c n l l₁ (Refused 24)
+  pub float-24 : v ≡ false → Unlabelled m modes key float64 node front w w c n l l₁ (Err LabelPlace)
   unfolding leaf
   float-24 e = record { does = λ held. front-not b _ e }
 
-  pub fixed-24 : (size : ℕ) → v ≡ false → Unlabelled m modes key (fixed size) node front w w c n l l₁ (Refused 24)
+  pub fixed-24 : (size : ℕ) → v ≡ false → Unlabelled m modes key (fixed size) node front w w c n l l₁ (Err LabelPlace)
   unfolding leaf
   fixed-24 size e = record { does = λ held. front-not b _ e }
 
   module _ (e : v ≡ true) {w₁ : List ℕ} where
-    module _ {r : Number} (t : Takes m w w₁ c (number_of r) (at_key (in_message m) (inline_everything modes) key (read_number (in_message m)))) where
-      pub varint-not : {x : ℕ} {k : Progress} → r ≡ number.Refused x → k ≡ number_refusal r → Unlabelled m modes key varint node front w w₁ c n l l₁ k
+    module _ {r : Result (ℤ × Cursor) Refusal} (t : Takes m w w₁ c (answered r) (at_key (in_message m) (inline_everything modes) key (read_number (in_message m)))) where
+      pub varint-not : {x : Refusal} → r ≡ Err x → Unlabelled m modes key varint node front w w₁ c n l l₁ (Err x)
       unfolding leaf from_key
-      varint-not q h = rw (h ∙ ap number_refusal q) (record { does = λ held. front-then b _ e (then-refuses _ (t.took (most_rows (length l)) n) _ (ap number_of q)) })
+      varint-not q = record { does = λ held. front-then b _ e (then-refuses _ (t.took (most_rows (length l)) n) _ (ap answered q)) }
 
-      pub varint-row : {x : ℤ} {a : ℕ} {next : Cursor} {s : Progress} → r ≡ number.Is x next → a ≡ word x → PutsRow n (integer_row ∷ a ∷ 0 ∷ node ∷ []) next l l₁ s → Unlabelled m modes key varint node front w w₁ c n l l₁ s
+      pub varint-row : {x : ℤ} {a : ℕ} {next : Cursor} {s : Result Progress Refusal} → r ≡ Ok (x, next) → a ≡ word x → PutsRow n (integer_row ∷ a ∷ 0 ∷ node ∷ []) next l l₁ s → Unlabelled m modes key varint node front w w₁ c n l l₁ s
       unfolding leaf from_key row_words says_words
-      varint-row q h p = record { does = λ held. front-then b _ e (then-row _ (t.took (most_rows (length l)) n) (ap number_of q) node (λ y. bare integer_row (word y)) p (rw h)) }
+      varint-row q h p = record { does = λ held. front-then b _ e (then-row _ (t.took (most_rows (length l)) n) (ap answered q) node (λ y. bare integer_row (word y)) p (rw h)) }
 
-    module _ {r : Part} (size : ℕ) (t : Takes m w w₁ c (part_of r) (at_key (in_message m) (inline_everything modes) key (read_bytes (in_message m) size))) where
-      pub fixed-row : {s : Progress} → PutsPart n fixed_row node r l l₁ s → Unlabelled m modes key (fixed size) node front w w₁ c n l l₁ s
+    module _ {r : Result (part.Place × Cursor) Refusal} (size : ℕ) (t : Takes m w w₁ c (part_of r) (at_key (in_message m) (inline_everything modes) key (read_bytes (in_message m) size))) where
+      pub fixed-not : {x : Refusal} → r ≡ Err x → Unlabelled m modes key (fixed size) node front w w₁ c n l l₁ (Err x)
       unfolding leaf from_key
-      fixed-row p = record { does = λ held. front-then b _ e (p.does m w w₁ _ (t.took (most_rows (length l)) n)) }
+      fixed-not q = record { does = λ held. front-then b _ e (then-refuses _ (t.took (most_rows (length l)) n) _ (ap part_of q)) }
 
-    module _ {r : Part} (t : Takes m w w₁ c (part_of r) (at_key (in_message m) (inline_everything modes) key (read_bytes (in_message m) 8))) where
-      pub float-not : {x : ℕ} {k : Progress} → r ≡ part.Refused x → k ≡ part_refusal r → Unlabelled m modes key float64 node front w w₁ c n l l₁ k
+      pub fixed-row : {p : part.Place} {next : Cursor} {s : Result Progress Refusal} → r ≡ Ok (p, next) → PutsPart n fixed_row node p next l l₁ s → Unlabelled m modes key (fixed size) node front w w₁ c n l l₁ s
       unfolding leaf from_key
-      float-not q h = rw (h ∙ ap part_refusal q) (record { does = λ held. front-then b _ e (then-refuses _ (t.took (most_rows (length l)) n) _ (ap part_of q)) })
+      fixed-row q p = record { does = λ held. front-then b _ e (then-part _ (t.took (most_rows (length l)) n) q p) }
 
-      pub float-row : {start size a : ℕ} {next : Cursor} {s : Progress} → r ≡ part.At start size next → size ≡ 8 → a ≡ little_endian (take 8 (drop start m)) → PutsRow n (float_row ∷ a ∷ 0 ∷ node ∷ []) next l l₁ s → Unlabelled m modes key float64 node front w w₁ c n l l₁ s
+    module _ {r : Result (part.Place × Cursor) Refusal} (t : Takes m w w₁ c (part_of r) (at_key (in_message m) (inline_everything modes) key (read_bytes (in_message m) 8))) where
+      pub float-not : {x : Refusal} → r ≡ Err x → Unlabelled m modes key float64 node front w w₁ c n l l₁ (Err x)
+      unfolding leaf from_key
+      float-not q = record { does = λ held. front-then b _ e (then-refuses _ (t.took (most_rows (length l)) n) _ (ap part_of q)) }
+
+      pub float-row : {y : part.Place} {a : ℕ} {next : Cursor} {s : Result Progress Refusal} → r ≡ Ok (y, next) → y.size ≡ 8 → a ≡ little_endian (take 8 (drop y.start m)) → PutsRow n (float_row ∷ a ∷ 0 ∷ node ∷ []) next l l₁ s → Unlabelled m modes key float64 node front w w₁ c n l l₁ s
       unfolding leaf from_key row_words says_words
       float-row q z h p = record { does = λ held. front-then b _ e (then-row _ (t.took (most_rows (length l)) n) (ap part_of q) node (λ y. bare float_row (little_endian (take y.size (drop y.start m)))) p (rw (z, h))) }
 
 -- ---- a STRING or BYTES
 
-module _ (m : List ℕ) (modes key : ℕ) (h : Held) (node : ℕ) (front : Option ℤ) (w : List ℕ) (c : Cursor) (n : ℕ) {w₁ l l₁ : List ℕ} {x : Leaf} {r : Part} {s : Progress} (t : Takes m w w₁ c (part_of r) (text_of m modes h key front)) where
-  pub string-row : x ≡ string → PutsPart n string_row node r l l₁ s → Walks m w w₁ c n l l₁ s (leaf (in_message m) modes (λ k. h) key x node front)
-  unfolding leaf
-  string-row e p = rw e (along (bind-then _ _ _ _ (λ x. refl)) (p.does m w w₁ _ (t.took (most_rows (length l)) n)))
+IsText : Leaf → ℕ → Type 0
+IsText x kind = (x ≡ string) × (kind ≡ string_row) ⊎ (x ≡ bytes) × (kind ≡ bytes_row)
 
-  pub bytes-row : x ≡ bytes → PutsPart n bytes_row node r l l₁ s → Walks m w w₁ c n l l₁ s (leaf (in_message m) modes (λ k. h) key x node front)
-  unfolding leaf
-  bytes-row e p = rw e (along (bind-then _ _ _ _ (λ x. refl)) (p.does m w w₁ _ (t.took (most_rows (length l)) n)))
+is-text : (v : held.Leaf) → (v ≡ held.TheVariants.String) ⊎ (v ≡ held.TheVariants.Bytes) → IsText (held_leaf v) (text_row (held_leaf v))
+unfolding IsText
+is-text v (inl x) = inl (rw x (refl, refl))
+is-text v (inr x) = inr (rw x (refl, refl))
 
--- either of them
-module _ (m : List ℕ) (modes key : ℕ) (h : Held) (node : ℕ) (front : Option ℤ) (w : List ℕ) (c : Cursor) (n : ℕ) {w₁ l l₁ : List ℕ} {r : Part} {s : Progress} (t : Takes m w w₁ c (part_of r) (text_of m modes h key front)) where
-  pub text-row : {kind : ℕ} (v : code.Leaf) → (v ≡ code.TheVariants.String) ⊎ (v ≡ code.TheVariants.Bytes) → kind ≡ text_row (held_leaf v) → PutsPart n kind node r l l₁ s → Walks m w w₁ c n l l₁ s (leaf (in_message m) modes (λ k. h) key (held_leaf v) node front)
-  text-row v (inl x) e p = rw x (string-row m modes key h node front w c n t refl (rw (e, x) at p))
-  text-row v (inr x) e p = rw x (bytes-row m modes key h node front w c n t refl (rw (e, x) at p))
+-- what is read of it, and its row
+text-is : (m : List ℕ) (modes key : ℕ) (h : Held) (node : ℕ) (front : Option ℤ) (x : Leaf) (kind : ℕ) (s : State (in_message m)) → IsText x kind
+    → leaf (in_message m) modes (λ k. h) key x node front s ≡ (text_of m modes h key front s >>= (λ y. one_row (in_message m) node (placed kind y.0) y.1))
+unfolding leaf IsText
+text-is m modes key h node front x kind s (inl z) = rw (z.0, z.1) (bind-then _ _ _ _ (λ x. refl))
+text-is m modes key h node front x kind s (inr z) = rw (z.0, z.1) (bind-then _ _ _ _ (λ x. refl))
 
-pub unlabelled : {m : List ℕ} {modes key node : ℕ} {x y : Leaf} {front : Front} {w w₁ : List ℕ} {c : Cursor} {n : ℕ} {l l₁ : List ℕ} {s : Progress} (held : ℕ → Held) → x ≡ y → Unlabelled m modes key y node front w w₁ c n l l₁ s
+module _ (m : List ℕ) (modes key : ℕ) (h : Held) (node : ℕ) (front : Option ℤ) (w : List ℕ) (c : Cursor) (n : ℕ) {w₁ l l₁ : List ℕ} {r : Result (part.Place × Cursor) Refusal} (t : Takes m w w₁ c (part_of r) (text_of m modes h key front))
+    (v : held.Leaf) (u : (v ≡ held.TheVariants.String) ⊎ (v ≡ held.TheVariants.Bytes)) where
+  pub text-not : {e : Refusal} → r ≡ Err e → Walks m w w₁ c n l l₁ (Err e) (leaf (in_message m) modes (λ k. h) key (held_leaf v) node front)
+  text-not q = along (text-is m modes key h node front _ _ _ (is-text v u)) (then-refuses _ (t.took (most_rows (length l)) n) _ (ap part_of q))
+
+  pub text-row : {kind : ℕ} {p : part.Place} {next : Cursor} {s : Result Progress Refusal} → r ≡ Ok (p, next) → kind ≡ text_row (held_leaf v) → PutsPart n kind node p next l l₁ s → Walks m w w₁ c n l l₁ s (leaf (in_message m) modes (λ k. h) key (held_leaf v) node front)
+  text-row q e p = along (text-is m modes key h node front _ _ _ (is-text v u)) (then-part _ (t.took (most_rows (length l)) n) q (rw e at p))
+
+pub unlabelled : {m : List ℕ} {modes key node : ℕ} {x y : Leaf} {front : code.Option ℤ} {w w₁ : List ℕ} {c : Cursor} {n : ℕ} {l l₁ : List ℕ} {s : Result Progress Refusal} (held : ℕ → Held) → x ≡ y → Unlabelled m modes key y node front w w₁ c n l l₁ s
     → Walks m w w₁ c n l l₁ s (leaf (in_message m) modes held key x node (front_of front))
 unlabelled held e d = rw e (d.does held)

@@ -3,5 +3,4 @@ pub mod Labels
 pub mod Leaves
 pub mod LittleEndian
 pub mod Reading
-pub mod Rows
 pub mod Texts

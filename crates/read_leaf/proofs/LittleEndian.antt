@@ -1,4 +1,4 @@
--- Four bytes and eight, little-endian. Assumes nothing.
+-- Eight bytes, little-endian. Assumes nothing.
 use mathlib.Core.Path.{◌≡◌, refl}
 use mathlib.Core.List.{List}
 use Prim.Native.Nat.{ℕ, suc, ◌+◌, ◌*◌, ◌<◌, ◌≤◌}
@@ -27,27 +27,24 @@ module _ (m : List ℕ) (at : ℕ) where
   unfolding number
   start k = rw add-zero
 
-  pub half_is : at + 4 ≤ length m → (a b c d : ℕ) → a ≡ get_or m at 0 → b ≡ get_or m (at + 1) 0 → c ≡ get_or m (at + 2) 0 → d ≡ get_or m (at + 3) 0
-      → (a + 256 * b) + 65536 * (c + 256 * d) ≡ little_endian (take 4 (drop at m))
-  half_is h a b c d e₀ e₁ e₂ e₃ =
+  pub word-is : at + 8 ≤ length m → {n : ℕ}
+      → n ≡ get_or m at 0 + 256 * get_or m (at + 1) 0 + 65536 * get_or m (at + 2) 0 + 16777216 * get_or m (at + 3) 0 + 4294967296 * get_or m (at + 4) 0
+      + 1099511627776 * get_or m (at + 5) 0 + 281474976710656 * get_or m (at + 6) 0 + 72057594037927936 * get_or m (at + 7) 0
+      → n ≡ little_endian (take 8 (drop at m))
+  word-is h e =
       let z : at + 0 ≡ at = add-zero at in
-      let s₀ : number 4 0 ≡ get_or m at 0 + 256 * number 3 1 = rw z at (first 3 0 (omega arith)) in
-      omega (arith, start 4, first 2 1 (omega arith), first 1 2 (omega arith), first 0 3 (omega arith), none 4)
-
-  pub word-is : at + 8 ≤ length m → (a b : ℕ) → a ≡ little_endian (take 4 (drop at m)) → b ≡ little_endian (take 4 (drop (at + 4) m)) → a + 4294967296 * b ≡ little_endian (take 8 (drop at m))
-  unfolding number
-  word-is h a b e₀ e₁ =
+      let s₀ : number 8 0 ≡ get_or m at 0 + 256 * number 7 1 = rw z at (first 7 0 (omega arith)) in
       omega (
         arith,
-        start 4,
+        e,
         start 8,
-        first 3 0 (omega arith),
-        first 2 1 (omega arith),
-        first 1 2 (omega arith),
-        first 0 3 (omega arith),
-        none 4,
-        first 7 0 (omega arith),
+        s₀,
         first 6 1 (omega arith),
         first 5 2 (omega arith),
         first 4 3 (omega arith),
+        first 3 4 (omega arith),
+        first 2 5 (omega arith),
+        first 1 6 (omega arith),
+        first 0 7 (omega arith),
+        none 8,
       )

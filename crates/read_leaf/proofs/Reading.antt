@@ -16,7 +16,7 @@ use Rattle.format.specs.Row.{Place}
 use Rattle.format.specs.Read.{Reading, in_message, ending, read_number, read_bytes, read_literal}
 use Rattle.laws.specs.Facts.{by_bool, by-lt}
 use Rattle.label.specs.declared.cursor.Cursor.{Cursor}
-use Rattle.label.specs.declared.cursor.Label.TheVariants.{Got, Bad}
+use Rattle.std.specs.Prelude.{Some, None}
 use Rattle.label.specs.Cursor.{cursor, answer, label_at}
 use Rattle.label.specs.Moved.{label-moved, label-bad}
 use Rattle.read_pieces.specs.Pieces.{reading_of, Inside}
@@ -34,8 +34,8 @@ module _ (m : List ℕ) (c : Cursor) where
   pub label-within : c.end ≤ length m → label_at (take c.end m) (cursor c.at (length (take c.end m))) ≡ label_at m c
   unfolding label_at
   label-within h =
-      ap (λ l. answer Got Bad (length (take c.end m)) (read_label (drop c.at l))) (take-length (take c.end m))
-      ∙ ap (λ n. answer Got Bad n (read_label (slice c.at c.end m))) (length-take-le c.end m h)
+      ap (λ l. answer (length (take c.end m)) (read_label (drop c.at l))) (take-length (take c.end m))
+      ∙ ap (λ n. answer n (read_label (slice c.at c.end m))) (length-take-le c.end m h)
 
   left_is : (in_message m).left (reading_of c) ≡ slice c.at c.end m
   left_is = take-drop c.at c.end m
@@ -44,7 +44,7 @@ module _ (m : List ℕ) (c : Cursor) where
     left-size : length ((in_message m).left (reading_of c)) ≡ c.end - c.at
     left-size = ap length left_is ∙ length-slice c.at c.end m i.inside
 
-    pub number-got : (l : ℤ) (next : Cursor) → label_at m c ≡ Got l next → read_number (in_message m) (reading_of c) ≡ ok (l, reading_of next)
+    pub number-got : (l : ℤ) (next : Cursor) → label_at m c ≡ Some (l, next) → read_number (in_message m) (reading_of c) ≡ ok (l, reading_of next)
     unfolding read_number or_refuse ◌>>=◌
     number-got l next e =
         let v = label-moved m c l next i.inside e in
@@ -53,7 +53,7 @@ module _ (m : List ℕ) (c : Cursor) where
         let end : c.end ≡ next.end = sym v.end in
         rw (left_is, v.is, length-slice c.at c.end m i.inside, size, at, end)
 
-    pub number-bad : label_at m c ≡ Bad → read_number (in_message m) (reading_of c) ≡ refuse 23 0
+    pub number-bad : label_at m c ≡ None → read_number (in_message m) (reading_of c) ≡ refuse 23 0
     unfolding read_number or_refuse ◌>>=◌
     number-bad e = rw (left_is, label-bad m c e)
 
@@ -65,10 +65,10 @@ module _ (m : List ℕ) (c : Cursor) where
     unfolding read_bytes need_at ◌>>◌
     bytes-not size h = rw (left-size, lt-leb size (c.end - c.at) h)
 
-    pub number-later : (l : ℤ) (next : Cursor) → label_at m c ≡ Got l next → c.at ≤ next.at
+    pub number-later : (l : ℤ) (next : Cursor) → label_at m c ≡ Some (l, next) → c.at ≤ next.at
     number-later l next e = omega (arith, (label-moved m c l next i.inside e).at)
 
-    pub number-inside : (l : ℤ) (next : Cursor) → label_at m c ≡ Got l next → Inside m next × (next.end ≡ c.end)
+    pub number-inside : (l : ℤ) (next : Cursor) → label_at m c ≡ Some (l, next) → Inside m next × (next.end ≡ c.end)
     number-inside l next e = let v = label-moved m c l next i.inside e in (record { ordered = omega (arith, v.inside, v.end); inside = omega (arith, i.inside, v.end) }, v.end)
 
 -- ---- a literal, and the 00 behind it

@@ -1,9 +1,9 @@
 -- STRING and BYTES: a literal by its refusals in order, a literal again, and the label in front. Assumes nothing.
 use mathlib.Core.Path.{◌≡◌, refl, sym, ap, ◌∙◌, subst}
-use mathlib.Core.Bool.{Bool, true, false}
+use mathlib.Core.Bool.{Bool, true, false, not}
 use mathlib.Core.List.{List, []}
 use mathlib.Core.Option.{Option, some}
-use Prim.Native.Nat.{ℕ, ◌+◌, ◌-◌, ◌/◌, ◌%◌, ◌^◌, ◌≤◌, ◌<◌}
+use Prim.Native.Nat.{ℕ, ◌+◌, ◌-◌, ◌^◌, ◌≤◌, ◌<◌}
 use native.Mathlib.Omega.{arith}
 use lib.Dec.{eqb}
 use lib.IntN.{ℤ, pos, negsuc}
@@ -15,7 +15,7 @@ use mir.Val.{SFits, to_z, of_z}
 use mir.ValLaws.{to_z-of_z}
 use Rattle.format.specs.Answer.{Answer, ok, refuse, need, need_at, or_refuse, ◌>>=◌, ◌>>◌}
 use Rattle.format.specs.Utf8.{is_text}
-use Rattle.format.specs.Modes.{has, inline_everything}
+use Rattle.format.specs.Modes.{null_terminated_strings, inline_everything}
 use Rattle.format.specs.Row.{Place, bytes_at}
 use Rattle.format.specs.Table.{Leaf, Held}
 use Rattle.format.specs.Read.{in_message, State, nth, total, is_ended, is_right, is_numbered, ending, read_bytes, read_literal, at_key, from_key, add_literal, read_text, own_label}
@@ -61,7 +61,7 @@ module _ (m : List ℕ) (modes key : ℕ) (l : Leaf) (size : ℕ) (c : Cursor) {
     ended_is : (s : State (in_message m)) → ended-read s ≡ (at_key (in_message m) (inline_everything modes) key (read_bytes (in_message m) k) s >>= then-read (shown m ended size))
     ended_is s = rw (← z, y) (key-then (in_message m) key (read_bytes (in_message m) (size + length (ending ended))) (shown m ended size) (read_literal (in_message m) ended size) (λ p. literal-at m size p ended) (inline_everything modes) s)
 
-    ended-not : {e : ℕ} → r ≡ refuse e 0 → Takes m w w₁ c (refuse e 0) ended-read
+    ended-not : {e i : ℕ} → r ≡ refuse e i → Takes m w w₁ c (refuse e i) ended-read
     ended-not q = record { took = λ most n. took-along (ended_is _) (then-takes-not _ (t.took most n) _ q) }
 
     module _ {v : Place} {c₁ : Cursor} (q : r ≡ ok (v, c₁)) {ends : Bool} (x : ends ≡ is_ending m ended (v.start + size)) where
@@ -87,9 +87,9 @@ module _ (m : List ℕ) (modes key : ℕ) (l : Leaf) (size : ℕ) (c : Cursor) {
       unfolding literal_of
       bytes-35 e = record { took = λ most n. then-takes-not _ ((ended-35 e).took most n) _ refl }
 
-    pub bytes-refused : {e : ℕ} → r ≡ refuse e 0 → Takes m w w₁ c r (literal_of m modes l key size)
+    pub bytes-refused : {e i : ℕ} → r ≡ refuse e i → Takes m w w₁ c (refuse e i) (literal_of m modes l key size)
     unfolding literal_of
-    bytes-refused q = rw q (record { took = λ most n. then-takes-not _ ((ended-not q).took most n) _ refl })
+    bytes-refused q = record { took = λ most n. then-takes-not _ ((ended-not q).took most n) _ refl }
 
 -- ---- a literal
 
@@ -106,8 +106,8 @@ module _ (m : List ℕ) (modes key : ℕ) (h : Held) (size : ℕ) (c : Cursor) {
   unfolding read_text from_key literal_of
   read_is s = bind-then _ _ _ kept (λ x. need-then (is_right h.leaf (bytes_at m x.0)) 28 x kept)
 
-  pub literal-not : {e : ℕ} → r ≡ refuse e 0 → Takes m w w₁ c r read
-  literal-not q = rw q (record { took = λ most n. took-along (read_is _) (then-takes-not _ (t.took most n) _ q) })
+  pub literal-not : {e i : ℕ} → r ≡ refuse e i → Takes m w w₁ c (refuse e i) read
+  literal-not q = record { took = λ most n. took-along (read_is _) (then-takes-not _ (t.took most n) _ q) }
 
   -- numbered is what the code says of the key
   module _ {v : Place} {c₁ : Cursor} (q : r ≡ ok (v, c₁)) {numbered : Bool} (y : numbered ≡ is_numbered modes h) where
@@ -161,7 +161,7 @@ module _ (modes key : ℕ) (h : Held) (k : ℕ) (w : List ℕ) where
 
 -- the label in front, and then the text
 module _ (m : List ℕ) (modes key : ℕ) (h : Held) (l : Option ℤ) (c : Cursor) {w : List ℕ} {r : Answer (ℤ × Cursor)} (t : Takes m w w c r (own_label (in_message m) l)) where
-  pub text-not : {e : ℕ} → r ≡ refuse e 0 → Takes m w w c (refuse e 0) (text_of m modes h key l)
+  pub text-not : {e i : ℕ} → r ≡ refuse e i → Takes m w w c (refuse e i) (text_of m modes h key l)
   text-not q = record { took = λ most n. then-takes-not _ (t.took most n) _ q }
 
   pub text-is : {w₂ : List ℕ} {c₁ : Cursor} {x : Answer (Place × Cursor)} {k : ℤ} (j : ℤ) → r ≡ ok (k, c₁) → j ≡ k → Takes m w w₂ c₁ x (read_text (in_message m) modes (λ i. h) key j) → Takes m w w₂ c x (text_of m modes h key l)
@@ -175,17 +175,33 @@ module _ (m : List ℕ) {leaf : code.Leaf} (start size : ℕ) where
       let q : start + size - start ≡ size = omega arith in
       rw z (e ∙ ap is_text (sym (take-drop start (start + size) m) ∙ ap (λ (k : ℕ). take k (drop start m)) q))
 
-  pub right-other : {l : code.Leaf} → leaf ≡ l → is_right (held_leaf l) (bytes_at m (record { start = start; size = size })) ≡ true → true ≡ is_right (held_leaf leaf) (bytes_at m (record { start = start; size = size }))
-  right-other z e = rw z (sym e)
+  pub right-other : (leaf ≡ code.TheVariants.String → ⊥) → true ≡ is_right (held_leaf leaf) (bytes_at m (record { start = start; size = size }))
+  unfolding is_right
+  right-other z = go leaf z
+    where
+      go : (l : code.Leaf) → (l ≡ code.TheVariants.String → ⊥) → true ≡ is_right (held_leaf l) (bytes_at m (record { start = start; size = size }))
+      go code.TheVariants.String n = absurd (n refl)
+      go code.TheVariants.Varint n = refl
+      go code.TheVariants.Float64 n = refl
+      go code.TheVariants.Bytes n = refl
+      go (code.TheVariants.Fixed k) n = refl
 
 -- what it asks behind them
 module _ (modes : ℕ) {leaf : code.Leaf} where
-  pub ended-text : leaf ≡ code.TheVariants.String → eqb (modes / 16 % 2) 1 ≡ is_ended modes (held_leaf leaf)
-  unfolding is_ended has
-  ended-text z = rw z
+  pub ended-text : {b : Bool} → leaf ≡ code.TheVariants.String → b ≡ null_terminated_strings modes → b ≡ is_ended modes (held_leaf leaf)
+  unfolding is_ended
+  ended-text z e = rw z e
 
-  pub ended-other : {l : code.Leaf} → leaf ≡ l → is_ended modes (held_leaf l) ≡ false → false ≡ is_ended modes (held_leaf leaf)
-  ended-other z e = rw z (sym e)
+  pub ended-other : (leaf ≡ code.TheVariants.String → ⊥) → false ≡ is_ended modes (held_leaf leaf)
+  unfolding is_ended
+  ended-other z = go leaf z
+    where
+      go : (l : code.Leaf) → (l ≡ code.TheVariants.String → ⊥) → false ≡ is_ended modes (held_leaf l)
+      go code.TheVariants.String n = absurd (n refl)
+      go code.TheVariants.Varint n = refl
+      go code.TheVariants.Float64 n = refl
+      go code.TheVariants.Bytes n = refl
+      go (code.TheVariants.Fixed k) n = refl
 
 module _ {ended : Bool} where
   module _ (m : List ℕ) (at : ℕ) where
@@ -197,7 +213,7 @@ module _ {ended : Bool} where
     unfolding is_ending
     ending-is e = rw e
 
-    pub ending-none : ended ≡ false → true ≡ is_ending m ended at
+    pub ending-none : ended ≡ false → not ended ≡ is_ending m ended at
     unfolding is_ending
     ending-none e = rw e
 

@@ -1,5 +1,5 @@
 -- What is read at a key as the code holds it is what is read as the wire type says.
-use Rattle.std.specs.Prelude.{◌≡◌, Bool, List, ℕ, ℤ, pos, negsuc}
+use Rattle.std.specs.Prelude.{◌≡◌, Bool, List, ℕ, ℤ, pos, negsuc, Result}
 use Rattle.std.proofs.Math.Path.{refl}
 use Rattle.std.proofs.Common.{sym, subst}
 use Rattle.std.proofs.Math.Option.{Option}
@@ -9,6 +9,7 @@ use Rattle.laws.specs.Facts.{bind-same}
 use Rattle.label.specs.declared.cursor.Cursor.{Cursor}
 use Rattle.table.specs.Held.{leaf_in}
 use Rattle.table.specs.declared.nodes.Leaf as code
+use Rattle.format.specs.declared.refusal.Refusal.{Refusal}
 use Rattle.read_leaf.specs.declared.Progress.{Progress}
 use Rattle.read_leaf.specs.State.{Walks}
 use Rattle.read_leaf.specs.Does.{along}
@@ -40,7 +41,7 @@ module _ (A : Source) (modes : ℕ) (held : ℕ → Held) (k : ℕ) where
   leaf-at float64 i l s = refl
   leaf-at (fixed n) i l s = refl
 
-pub held-walks : {m w w₁ l l₁ : List ℕ} {n : ℕ} {r : Progress} {x : code.Leaf} {dedup : Bool} (modes : ℕ) (held : ℕ → Held) (k i : ℕ) (front : Option ℤ) (c : Cursor) → x ≡ leaf_in (held k).leaf → dedup ≡ (held k).dedup
+pub held-walks : {m w w₁ l l₁ : List ℕ} {n : ℕ} {r : Result Progress Refusal} {x : code.Leaf} {dedup : Bool} (modes : ℕ) (held : ℕ → Held) (k i : ℕ) (front : Option ℤ) (c : Cursor) → x ≡ leaf_in (held k).leaf → dedup ≡ (held k).dedup
     → Walks m w w₁ c n l l₁ r (leaf (in_message m) modes (λ j. held_of x dedup) k (held_leaf x) i front) → Walks m w w₁ c n l l₁ r (leaf (in_message m) modes held k (held k).leaf i front)
 held-walks {m} {w} {w₁} {l} {l₁} {n} {r} modes held k i front c e q d =
     along (sym (leaf-at (in_message m) modes held k (held k).leaf i front _)) (subst (λ (h : Held). Walks m w w₁ c n l l₁ r (leaf (in_message m) modes (λ j. h) k h.leaf i front)) (held-is (held k) e q) d)

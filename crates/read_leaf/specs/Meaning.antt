@@ -1,66 +1,45 @@
 -- What the code's answers say in the format's terms.
-use Rattle.std.specs.Prelude.{◌≡◌, Bool, List, ℕ, ◌+◌, ◌≤◌, ℤ, pos, negsuc, length}
+use Rattle.std.specs.Prelude.{◌≡◌, Bool, List, ℕ, ◌+◌, ◌≤◌, ℤ, pos, negsuc, length, Result, Ok, Err}
+use Rattle.std.specs.Prelude as code
 use Rattle.std.proofs.Math.Option.{Option, none, some}
-use Rattle.format.specs.Answer.{Answer, ok, refuse}
+use Rattle.format.specs.Answer.{Answer}
+use Rattle.format.specs.Refusal.{answered_by}
+use Rattle.format.specs.Part.{place_of}
+use Rattle.format.specs.declared.refusal.Refusal.{Refusal}
+use Rattle.format.specs.declared.place.Place as part
 use Rattle.format.specs.Row.{Place, string_row, bytes_row}
 use Rattle.format.specs.Table.{Leaf, string, varint, float64, bytes, fixed, Held}
 use Rattle.label.specs.declared.cursor.Cursor.{Cursor}
-use Rattle.label.specs.declared.cursor.Label as label
-use Rattle.table.specs.declared.nodes.Leaf as code
-use Rattle.read_leaf.specs.declared.Progress.{Progress}
-use Rattle.read_leaf.specs.declared.Progress.TheVariants.{Done, Refused}
-use Rattle.read_leaf.specs.declared.front.Front.{Front}
-use Rattle.read_leaf.specs.declared.front.Front.TheVariants.{Open, Label}
+use Rattle.table.specs.declared.nodes.Leaf as leaf
 use Rattle.read_leaf.specs.declared.front.Size.{Size}
 use Rattle.read_leaf.specs.declared.front.Size.TheVariants.{Of, Below}
-use Rattle.read_leaf.specs.declared.block.Part.{Part}
-use Rattle.read_leaf.specs.declared.block.Part.TheVariants as part
-use Rattle.read_leaf.specs.declared.block.Number.{Number}
-use Rattle.read_leaf.specs.declared.block.Number.TheVariants as number
 
-abbrev pub front_of : Front → Option ℤ
-front_of Open = none
-front_of (Label l) = some l
+-- a label in front of a value, if one has been read already
+abbrev pub front_of : code.Option ℤ → Option ℤ
+front_of code.None = none
+front_of (code.Some l) = some l
 
 abbrev pub size_label : Size → ℤ
 size_label (Of n) = pos n
 size_label (Below k) = negsuc k
 
-abbrev pub label_of : label.Label → Answer (ℤ × Cursor)
-label_of (label.TheVariants.Got l c) = ok (l, c)
-label_of label.TheVariants.Bad = refuse 23 0
-
-abbrev pub part_of : Part → Answer (Place × Cursor)
-part_of (part.At start size c) = ok (record { start = start; size = size }, c)
-part_of (part.Refused e) = refuse e 0
-
-abbrev pub number_of : Number → Answer (ℤ × Cursor)
-number_of (number.Is n c) = ok (n, c)
-number_of (number.Refused e) = refuse e 0
-
--- a refusal, for the walk
-abbrev pub part_refusal : Part → Progress
-part_refusal (part.At start size c) = Done c 0
-part_refusal (part.Refused e) = Refused e
-
-abbrev pub number_refusal : Number → Progress
-number_refusal (number.Is n c) = Done c 0
-number_refusal (number.Refused e) = Refused e
+abbrev pub part_of : Result (part.Place × Cursor) Refusal → Answer (Place × Cursor)
+part_of r = answered_by (λ (x : part.Place × Cursor). (place_of x.0, x.1)) r
 
 -- a part has that size, and is inside the message
-abbrev pub PartIn : List ℕ → ℕ → Part → Type 0
-PartIn m size (part.At start k c) = (k ≡ size) × (start + size ≤ length m)
-PartIn m size (part.Refused e) = Unit {0}
+abbrev pub PartIn : List ℕ → ℕ → Result (part.Place × Cursor) Refusal → Type 0
+PartIn m size (Ok x) = (x.0.size ≡ size) × (x.0.start + x.0.size ≤ length m)
+PartIn m size (Err e) = Unit {0}
 
 -- what a key holds
-abbrev pub held_leaf : code.Leaf → Leaf
-held_leaf code.TheVariants.String = string
-held_leaf code.TheVariants.Varint = varint
-held_leaf code.TheVariants.Float64 = float64
-held_leaf code.TheVariants.Bytes = bytes
-held_leaf (code.TheVariants.Fixed n) = fixed n
+abbrev pub held_leaf : leaf.Leaf → Leaf
+held_leaf leaf.TheVariants.String = string
+held_leaf leaf.TheVariants.Varint = varint
+held_leaf leaf.TheVariants.Float64 = float64
+held_leaf leaf.TheVariants.Bytes = bytes
+held_leaf (leaf.TheVariants.Fixed n) = fixed n
 
-abbrev pub held_of : code.Leaf → Bool → Held
+abbrev pub held_of : leaf.Leaf → Bool → Held
 held_of leaf dedup = record { leaf = held_leaf leaf; dedup = dedup }
 
 -- the kind of a text's row

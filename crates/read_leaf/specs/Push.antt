@@ -1,13 +1,13 @@
 -- What putting one row more answers, and what it leaves in the buffer.
-use Rattle.std.specs.Prelude.{cond, List, ℕ, ◌+◌, ◌*◌, ltb}
+use Rattle.std.specs.Prelude.{cond, List, ℕ, ◌+◌, ◌*◌, ltb, Result, Ok, Err}
 use Rattle.std.proofs.lemmas.List.Edits.{sets}
 use Rattle.format.specs.Row.{row_width}
-use Rattle.read_leaf.specs.declared.push.Put.{Put}
-use Rattle.read_leaf.specs.declared.push.Put.TheVariants.{Next, Full}
+use Rattle.format.specs.declared.refusal.Refusal.{Refusal}
+use Rattle.format.specs.declared.refusal.Refusal.TheVariants.{ManyRows}
 
 -- row n, of so many that there may be
-abbrev pub put_of : ℕ → ℕ → Put
-put_of most n = cond (ltb n most) (Next (n + 1)) Full
+abbrev pub put_of : ℕ → ℕ → Result ℕ Refusal
+put_of most n = cond (ltb n most) (Ok (n + 1)) (Err ManyRows)
 
 -- its words are ws
 abbrev pub put_in : ℕ → List ℕ → ℕ → List ℕ → List ℕ

@@ -1,8 +1,9 @@
 -- The walk's state as the code keeps it, and what a step of the walk has done.
-use Rattle.std.specs.Prelude.{◌≡◌, List, ℕ, ◌+◌, ◌-◌, ◌*◌, ◌/◌, ◌<◌, ◌≤◌, min, length}
+use Rattle.std.specs.Prelude.{◌≡◌, List, ℕ, ◌+◌, ◌-◌, ◌*◌, ◌/◌, ◌<◌, ◌≤◌, min, length, Result}
 use Rattle.std.proofs.Math.Option.{some}
 use Rattle.std.proofs.lemmas.List.Edits.{sets}
 use Rattle.format.specs.Answer.{Answer, ok, refuse}
+use Rattle.format.specs.Refusal.{answered}
 use Rattle.format.specs.Row.{Place, Row, words, row_width}
 use Rattle.format.specs.Read.{Reading, in_message, State}
 use Rattle.label.specs.declared.cursor.Cursor.{Cursor}
@@ -12,8 +13,11 @@ use Rattle.store.specs.Store.{lookup}
 use Rattle.store.specs.Words.{start_of}
 use Rattle.store.specs.Same.{Same}
 use Rattle.read_literals.specs.Words.{store_of, Good}
+use Rattle.format.specs.declared.refusal.Refusal.{Refusal}
 use Rattle.read_leaf.specs.declared.Progress.{Progress}
-use Rattle.read_leaf.specs.declared.Progress.TheVariants.{Done, Refused}
+
+abbrev pub progress : Cursor → ℕ → Progress
+progress c n = record { core = c; rows = n }
 
 abbrev pub cursor_of : Reading → Cursor
 cursor_of p = record { at = p.at; end = p.end }
@@ -48,9 +52,9 @@ pub record Holds (m : List ℕ) (most : ℕ) (w w' : List ℕ) (n : ℕ) (s : St
   pub same : Same w w'
 
 -- what an answer of the definition is for the code
-abbrev pub step_of : {m : List ℕ} → ℕ → Answer (List (Row Place) × State (in_message m)) → Progress
-step_of n (ok r) = Done (cursor_of r.1.core) (n + length r.0)
-step_of n (refuse e i) = Refused e
+abbrev pub step_of : {m : List ℕ} → ℕ → Answer (List (Row Place) × State (in_message m)) → Answer Progress
+step_of n (ok r) = ok (progress (cursor_of r.1.core) (n + length r.0))
+step_of n (refuse e i) = refuse e i
 
 -- The rows stand in the buffer from row n on, no more than there may be, and the work holds the state. No refusal of the walk has a second number of its own.
 abbrev pub Left : (m : List ℕ) → ℕ → List ℕ → List ℕ → ℕ → List ℕ → List ℕ → Answer (List (Row Place) × State (in_message m)) → Type 0
@@ -58,12 +62,12 @@ Left m most w w' n before now (ok r) = (now ≡ sets before (row_width * n) (wor
 Left m most w w' n before now (refuse e i) = (i ≡ 0) × Same w w'
 
 -- A step that began with the work w and n rows, and ended with the work w'. After a refusal nothing is said of the rows, and of the work that the caller's words are as they were.
-pub record Does (m : List ℕ) (most : ℕ) (w w' : List ℕ) (n : ℕ) (before now : List ℕ) (r : Progress) (a : Answer (List (Row Place) × State (in_message m))) : Type 0 where
-  pub answer : r ≡ step_of n a
+pub record Does (m : List ℕ) (most : ℕ) (w w' : List ℕ) (n : ℕ) (before now : List ℕ) (r : Result Progress Refusal) (a : Answer (List (Row Place) × State (in_message m))) : Type 0 where
+  pub answer : answered r ≡ step_of n a
   pub left : Left m most w w' n before now a
 
 -- in a contract: f is the definition of the step, and c the core as far as it has been read before
-abbrev pub Walks : (m w w' : List ℕ) → Cursor → ℕ → List ℕ → List ℕ → Progress → (State (in_message m) → Answer (List (Row Place) × State (in_message m))) → Type 0
+abbrev pub Walks : (m w w' : List ℕ) → Cursor → ℕ → List ℕ → List ℕ → Result Progress Refusal → (State (in_message m) → Answer (List (Row Place) × State (in_message m))) → Type 0
 Walks m w w' c n before now r f = Does m (most_rows (length before)) w w' n before now r (f (state_of m (most_rows (length before)) w c n))
 
 -- The same of a step that reads something of the message and writes no row.

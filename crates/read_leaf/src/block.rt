@@ -8,85 +8,36 @@ ghost use Rattle.read_pieces.specs.Pieces.{Inside};
 ghost use Rattle.store.specs.Store.{lookup};
 ghost use Rattle.read_literals.specs.Words.{store_of};
 ghost use Rattle.read_leaf.specs.State.{Ready, Takes};
-ghost use Rattle.read_leaf.specs.Meaning.{part_of, number_of, part_refusal, number_refusal, PartIn};
+ghost use Rattle.format.specs.Refusal.{answered};
+ghost use Rattle.read_leaf.specs.Meaning.{part_of, PartIn};
 ghost use Rattle.read_leaf.specs.Promises.{Opened};
 
-use super::Progress;
-use label::{Cursor, Label};
-use read_pieces::Given;
-use store::Slot;
-
-// Bytes of the message: their start and size, and the core as far as it has been read; or the refusal.
-#[derive(Clone, Copy)]
-pub enum Part {
-    At(usize, usize, Cursor),
-    Refused(u64),
-}
-
-#[derive(Clone, Copy)]
-pub enum Number {
-    Is(i64, Cursor),
-    Refused(u64),
-}
-
-impl Part {
-    // The refusal, for the walk; where there is none, how far the core has been read.
-    pub fn refusal(self) -> Progress
-        ensures { result ≡ part_refusal self }
-    {
-        match self {
-            Part::Refused(number) => Progress::Refused(number),
-            Part::At(_, _, c) => Progress::Done(c, 0),
-        }
-    }
-}
-
-impl Number {
-    // The same.
-    pub fn refusal(self) -> Progress
-        ensures { result ≡ number_refusal self }
-    {
-        match self {
-            Number::Refused(number) => Progress::Refused(number),
-            Number::Is(_, c) => Progress::Done(c, 0),
-        }
-    }
-}
-
-fn is_inline(modes: u64) -> bool
-    ensures { result ≡ inline_everything modes }
-{
-    modes % 2 == 1
-}
+use super::Message;
+use format::{Place, Refusal};
+use label::Cursor;
 
 // The next block that waits, for a key that has none.
-fn first_block(m: &[u8], work: &mut [u32], key: usize) -> Given
+fn first_block(m: &[u8], work: &mut [u32], key: usize) -> Option<Cursor>
     requires { Ready m.now work.old × (key < 32) × (lookup key (store_of work.old).slots ≡ none) }
     ensures { Opened m.now key work.old work.new result }
 {
     let rest = store::rest(work);
-    let waiting = Cursor {
-        at: rest.at,
-        end: rest.end,
-    };
-    let Given::Block(block) = read_pieces::next_block(m, waiting) else {
-        return Given::Nothing;
-    };
+    let block = read_pieces::next_block(m, rest)?;
     store::touch(work, key, block.at, block.end);
     store::move_rest(work, block.end);
     store::set_start(work, key, block.at);
-    Given::Block(block)
+    Some(block)
 }
 
 // The block of a key, which is given to it now if this is the first touch.
-fn block_of(m: &[u8], work: &mut [u32], key: usize) -> Given
+fn block_of(m: &[u8], work: &mut [u32], key: usize) -> Option<Cursor>
     requires { Ready m.now work.old × (key < 32) }
     ensures { Opened m.now key work.old work.new result }
 {
-    let Slot::At(at, end) = store::find(work, key) else {
+    let Some(block) = store::find(work, key) else {
         return first_block(m, work, key);
     };
-    Given::Block(Cursor { at, end })
+    Some(block)
 }
 
 // How many bytes are left of the piece that begins at `start`, where it has been read up to `place`.
@@ -98,53 +49,57 @@ fn left_in(m: &[u8], start: usize, place: Cursor) -> usize
     read_piece::left_at(&m[start..end], place.at - start)
 }
 
-fn block_bytes(m: &[u8], work: &mut [u32], key: usize, size: usize, c: Cursor) -> Part
+fn block_bytes(
+    m: &[u8],
+    work: &mut [u32],
+    key: usize,
+    size: usize,
+    c: Cursor,
+) -> Result<(Place, Cursor), Refusal>
     requires { Ready m.now work.old × (key < 32) × Inside m.now c }
     ensures takes { Takes m.now work.old work.new c (part_of result) (at_key (in_message m.now) false key (read_bytes (in_message m.now) size)) }
     ensures part_in { PartIn m.now size result }
 {
-    let Given::Block(block) = block_of(m, work, key) else {
-        return Part::Refused(29);
-    };
+    let block = block_of(m, work, key).ok_or(Refusal::NoBlock)?;
     if left_in(m, store::start(work, key), block) < size {
-        return Part::Refused(27);
+        return Err(Refusal::Cut);
     }
     let start = block.at;
     store::advance(work, key, start + size);
-    Part::At(start, size, c)
+    Ok((Place { start, size }, c))
 }
 
-// So many bytes of a key's value.
+// So many bytes of a key's value, and the core as far as it has been read. Compiled into who calls it: a call for each value
+// makes reading floats and numbers slower by a twelfth.
+#[inline(always)]
 pub fn take_bytes(
-    m: &[u8],
+    message: &Message,
     work: &mut [u32],
-    modes: u64,
     key: usize,
     size: usize,
     c: Cursor,
-) -> Part
-    requires { Ready m.now work.old × (key < 32) × Inside m.now c }
-    ensures takes { Takes m.now work.old work.new c (part_of result) (at_key (in_message m.now) (inline_everything modes) key (read_bytes (in_message m.now) size)) }
-    ensures part_in { PartIn m.now size result }
+) -> Result<(Place, Cursor), Refusal>
+    requires { Ready message.now.bytes.now work.old × (key < 32) × Inside message.now.bytes.now c }
+    ensures takes { Takes message.now.bytes.now work.old work.new c (part_of result) (at_key (in_message message.now.bytes.now) (inline_everything message.now.modes) key (read_bytes (in_message message.now.bytes.now) size)) }
+    ensures part_in { PartIn message.now.bytes.now size result }
 {
-    if !is_inline(modes) {
-        return block_bytes(m, work, key, size, c);
+    if !modes::inline_everything(message.modes) {
+        return block_bytes(message.bytes, work, key, size, c);
     }
     let start = c.at;
-    let end = c.end;
-    if left_in(m, 0, c) < size {
-        return Part::Refused(27);
+    if left_in(message.bytes, 0, c) < size {
+        return Err(Refusal::Cut);
     }
     let next = Cursor {
         at: start + size,
-        end,
+        end: c.end,
     };
-    Part::At(start, size, next)
+    Ok((Place { start, size }, next))
 }
 
 // The label where a block, or the core, has been read to. Its slice ends where the piece ends, and begins with the message:
 // that spares the two places' being counted from elsewhere, which would make reading numbers slower by a tenth.
-fn label_in(m: &[u8], place: Cursor) -> Label
+fn label_in(m: &[u8], place: Cursor) -> Option<(i64, Cursor)>
     requires { place.end ≤ length m.now }
     ensures { result ≡ label_at m.now place }
 {
@@ -152,48 +107,30 @@ fn label_in(m: &[u8], place: Cursor) -> Label
     read_piece::label_at(&m[..end], place.at)
 }
 
-fn block_number(m: &[u8], work: &mut [u32], key: usize, c: Cursor) -> Number
+fn block_number(m: &[u8], work: &mut [u32], key: usize, c: Cursor) -> Result<(i64, Cursor), Refusal>
     requires { Ready m.now work.old × (key < 32) × Inside m.now c }
-    ensures { Takes m.now work.old work.new c (number_of result) (at_key (in_message m.now) false key (read_number (in_message m.now))) }
+    ensures { Takes m.now work.old work.new c (answered result) (at_key (in_message m.now) false key (read_number (in_message m.now))) }
 {
-    let Given::Block(block) = block_of(m, work, key) else {
-        return Number::Refused(29);
-    };
-    let Label::Got(v, next) = label_in(m, block) else {
-        return Number::Refused(23);
-    };
+    let block = block_of(m, work, key).ok_or(Refusal::NoBlock)?;
+    let (v, next) = label_in(m, block).ok_or(Refusal::Label)?;
     store::advance(work, key, next.at);
-    Number::Is(v, c)
+    Ok((v, c))
 }
 
 // The VARINT of a key.
-pub fn take_number(m: &[u8], work: &mut [u32], modes: u64, key: usize, c: Cursor) -> Number
-    requires { Ready m.now work.old × (key < 32) × Inside m.now c }
-    ensures { Takes m.now work.old work.new c (number_of result) (at_key (in_message m.now) (inline_everything modes) key (read_number (in_message m.now))) }
+pub fn take_number(
+    message: &Message,
+    work: &mut [u32],
+    key: usize,
+    c: Cursor,
+) -> Result<(i64, Cursor), Refusal>
+    requires { Ready message.now.bytes.now work.old × (key < 32) × Inside message.now.bytes.now c }
+    ensures { Takes message.now.bytes.now work.old work.new c (answered result) (at_key (in_message message.now.bytes.now) (inline_everything message.now.modes) key (read_number (in_message message.now.bytes.now))) }
 {
-    if !is_inline(modes) {
-        return block_number(m, work, key, c);
+    if !modes::inline_everything(message.modes) {
+        return block_number(message.bytes, work, key, c);
     }
-    let Label::Got(v, next) = label_in(m, c) else {
-        return Number::Refused(23);
-    };
-    Number::Is(v, next)
-}
-
-fn wide(x: u8) -> u64
-    ensures { (result ≡ x) × (result < 256) }
-{
-    x as u64
-}
-
-// Four bytes, little-endian.
-fn half_at(m: &[u8], at: usize) -> u64
-    requires { at + 4 ≤ length m.now }
-    ensures { (result ≡ little_endian (take 4 (drop at m.now))) × (result < 2 ^ 32) }
-{
-    let low = wide(m[at]) + 256 * wide(m[at + 1]);
-    let high = wide(m[at + 2]) + 256 * wide(m[at + 3]);
-    low + 65536 * high
+    label_in(message.bytes, c).ok_or(Refusal::Label)
 }
 
 // Eight bytes, little-endian.
@@ -201,5 +138,14 @@ pub fn word_at(m: &[u8], at: usize) -> u64
     requires { at + 8 ≤ length m.now }
     ensures { result ≡ little_endian (take 8 (drop at m.now)) }
 {
-    half_at(m, at) + 4294967296 * half_at(m, at + 4)
+    u64::from_le_bytes([
+        m[at],
+        m[at + 1],
+        m[at + 2],
+        m[at + 3],
+        m[at + 4],
+        m[at + 5],
+        m[at + 6],
+        m[at + 7],
+    ])
 }

@@ -5,46 +5,41 @@ ghost use Rattle.read_pieces.specs.Pieces.{Inside};
 ghost use Rattle.read_leaf.specs.Meaning.{size_label};
 ghost use Rattle.read_leaf.specs.Promises.{Owns, Bare};
 
-use label::{Cursor, Label};
+use format::Refusal;
+use label::Cursor;
 
-// A label in front of a value that has been read already, or none.
-#[derive(Clone, Copy)]
-pub enum Front {
-    Open,
-    Label(i64),
-}
-
-// A label from 0 up; or below 0, and then how far below -1.
+// A label from 0 up; or below 0, and then how far below -1. Both are good answers, so that it is no Result.
 #[derive(Clone, Copy)]
 pub enum Size {
     Of(usize),
     Below(usize),
 }
 
+// Labels are one where the format says so: where their zig-zags are.
 pub fn is_label(l: i64, n: i64) -> bool
     ensures { result ≡ is_label l n }
 {
     l == n
 }
 
-// A labelled value takes the label in front of it for its own.
-pub fn own_label(m: &[u8], front: Front, c: Cursor) -> Label
+// A labelled value takes the label in front of it for its own. `front` is that label, where one has been read already.
+pub fn own_label(m: &[u8], front: Option<i64>, c: Cursor) -> Result<(i64, Cursor), Refusal>
     requires { Inside m.now c }
     ensures { Owns m.now front c result }
 {
     match front {
-        Front::Open => c.label(m),
-        Front::Label(l) => Label::Got(l, c),
+        None => c.label(m).ok_or(Refusal::Label),
+        Some(l) => Ok((l, c)),
     }
 }
 
 // Before an unlabelled value it is 0.
-pub fn is_bare(front: Front) -> bool
+pub fn is_bare(front: Option<i64>) -> bool
     ensures { Bare front result }
 {
     match front {
-        Front::Open => true,
-        Front::Label(l) => is_label(l, 0),
+        None => true,
+        Some(l) => is_label(l, 0),
     }
 }
 

@@ -1,4 +1,3 @@
 -- What the words mean, and their laws.
 pub mod Words
-pub mod Meaning
 pub mod Laws

@@ -6,7 +6,7 @@
 ghost use Rattle.std.specs.Prelude.{◌≡◌, ◌-◌, length};
 ghost use Rattle.label.specs.Cursor.{cursor, label_at};
 
-use label::{Cursor, Label};
+use label::Cursor;
 
 #[derive(Clone, Copy)]
 pub struct Piece<'a> {
@@ -25,37 +25,36 @@ impl<'a> Piece<'a> {
     pub fn moved(self, at: usize) -> Piece<'a>
         ensures { (result.bytes ≡ self.entry.bytes) × (result.at ≡ at) }
     {
-        Piece {
-            bytes: self.bytes,
-            at,
+        Piece { at, ..self }
+    }
+
+    // The place in its bytes.
+    fn place(self) -> Cursor
+        ensures { result ≡ cursor self.entry.at (length self.entry.bytes.now) }
+    {
+        Cursor {
+            at: self.at,
+            end: self.bytes.len(),
         }
     }
 
     // The number, and how far the piece has been read behind it.
-    pub fn label(self) -> Label
+    pub fn label(self) -> Option<(i64, Cursor)>
         ensures { result ≡ label_at self.entry.bytes.now (cursor self.entry.at (length self.entry.bytes.now)) }
     {
-        let place = Cursor {
-            at: self.at,
-            end: self.bytes.len(),
-        };
-        place.label(self.bytes)
+        self.place().label(self.bytes)
     }
 
     // How many bytes of it have not been read.
     pub fn left(self) -> usize
         ensures { result ≡ length self.entry.bytes.now - self.entry.at }
     {
-        let place = Cursor {
-            at: self.at,
-            end: self.bytes.len(),
-        };
-        place.left()
+        self.place().left()
     }
 }
 
 // The label where the first `at` bytes of a piece have been read.
-pub fn label_at(bytes: &[u8], at: usize) -> Label
+pub fn label_at(bytes: &[u8], at: usize) -> Option<(i64, Cursor)>
     ensures { result ≡ label_at bytes.now (cursor at (length bytes.now)) }
 {
     Piece::new(bytes).moved(at).label()

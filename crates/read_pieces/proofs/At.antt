@@ -19,7 +19,7 @@ use Rattle.label.specs.Cursor.{cursor, label_at}
 use Rattle.label.specs.Laws.{label-signed, label-least}
 use Rattle.label.specs.Moved.{label-moved, label-bad}
 use Rattle.label.specs.declared.cursor.Cursor.{Cursor}
-use Rattle.label.specs.declared.cursor.Label.TheVariants.{Got, Bad}
+use Rattle.std.proofs.Common.{Some, None}
 use Rattle.read_pieces.specs.Chain.{Piece, NoPiece, broken, negative, long}
 
 -- a signed number as the code holds it
@@ -39,7 +39,7 @@ module _ (m : List ℕ) (at : ℕ) where
   whole : (i : ℕ) → slice i (length m) m ≡ drop i m
   whole i = ap (drop i) (take-length m)
 
-  pub at-bad : label_at m (cursor at (length m)) ≡ Bad → NoPiece m at
+  pub at-bad : label_at m (cursor at (length m)) ≡ None → NoPiece m at
   at-bad e = broken (rw whole at (label-bad m (cursor at (length m)) e))
 
   below-zero : (n : ℤ) (rest : List ℕ) → lt_z n (pos 0) ≡ true → read_label (drop at m) ≡ some (n, rest) → NoPiece m at
@@ -53,7 +53,7 @@ module _ (m : List ℕ) (at : ℕ) where
     inside : i ≤ length m
     fits : SFits w64 n
 
-  module _ (n : ℤ) (next : Cursor) (e : label_at m (cursor at (length m)) ≡ Got n next) where
+  module _ (n : ℤ) (next : Cursor) (e : label_at m (cursor at (length m)) ≡ Some (n, next)) where
     labelled : Labelled n next.at
     labelled =
         let v = label-moved m (cursor at (length m)) n next (omega arith) e in

@@ -10,7 +10,7 @@ use Rattle.format.specs.Read.{Reading, split}
 use Rattle.laws.specs.Facts.{by-lt}
 use Rattle.label.specs.Cursor.{cursor}
 use Rattle.label.specs.declared.cursor.Cursor.{Cursor}
-use Rattle.read_pieces.specs.declared.Parts.TheVariants.{Found, Bad}
+use Rattle.std.proofs.Common.{Some, None}
 use Rattle.read_pieces.specs.Chain.{pieces_from, Piece, NoPiece, Chain, here, past, piece-step, no-piece, nothing_left, chain-le, split-found, split-refused, split-empty}
 use Rattle.read_pieces.specs.Pieces.{reading_of, Parted}
 
@@ -35,14 +35,14 @@ module _ (m : List ℕ) where
   reached-not first n = by-lt 1 (length m) (λ l. split-refused m (no-piece l n)) (λ l. split-empty m (nothing_left m l))
   reached-not (next p r x l) n = split-refused m (reached-refused (next p r x l) (no-piece l n))
 
-  pub reached-bad : {at : ℕ} → Reached m at → NoPiece m at → Parted m Bad
+  pub reached-bad : {at : ℕ} → Reached m at → NoPiece m at → Parted m None
   reached-bad r n = record { is = sym (reached-not r n); stand = tt }
 
   last-piece : {at : ℕ} (p : Reading) → Piece m at p → p.end ≡ length m → pieces_from m at ≡ ok (p ∷ [])
   unfolding ◌>>=◌
   last-piece p x e = rw (piece-step x, nothing_left m {at = p.end} (omega arith))
 
-  pub reached-found : {at : ℕ} (core : Cursor) → Reached m at → Piece m at (reading_of core) → core.end ≡ length m → Parted m (Found core (cursor 1 at))
+  pub reached-found : {at : ℕ} (core : Cursor) → Reached m at → Piece m at (reading_of core) → core.end ≡ length m → Parted m (Some (record { core = core; blocks = cursor 1 at }))
   reached-found {at} core r x e =
       let l = last-piece (reading_of core) x e in
       let c : Chain m 1 at = reached-chain r (here l) in

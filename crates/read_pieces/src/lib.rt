@@ -3,68 +3,61 @@
 
 ghost use Rattle.read_pieces.specs.Pieces.{Blocks, PieceIs, Parted, Gave};
 
-use label::{Cursor, Label};
+use label::Cursor;
 
 // The core, and where the blocks stand: from the label of the first to that of the core.
 #[derive(Clone, Copy)]
-pub enum Parts {
-    Found(Cursor, Cursor),
-    Bad,
-}
-
-// A block. The label after it stands where it ends.
-#[derive(Clone, Copy)]
-pub enum Given {
-    Block(Cursor),
-    Nothing,
+pub struct Parts {
+    pub core: Cursor,
+    pub blocks: Cursor,
 }
 
 // The piece whose label stands at `at`. For that the whole message is read as one piece.
-fn piece_at(m: &[u8], at: usize) -> Given
+fn piece_at(m: &[u8], at: usize) -> Option<Cursor>
     ensures { PieceIs m.now at result }
 {
-    let Label::Got(n, next) = read_piece::label_at(m, at) else {
-        return Given::Nothing;
-    };
+    let (n, next) = read_piece::label_at(m, at)?;
     if n < 0 {
-        return Given::Nothing;
+        return None;
     }
     let start = next.at;
     let size = n as usize;
     if read_piece::left_at(m, start) < size {
-        return Given::Nothing;
+        return None;
     }
-    Given::Block(Cursor {
+    Some(Cursor {
         at: start,
         end: start + size,
     })
 }
 
 // All pieces, from behind the header to the end of the message.
-pub fn part(m: &[u8]) -> Parts
+pub fn part(m: &[u8]) -> Option<Parts>
     ensures { Parted m.now result }
 {
     let mut at = 1;
+    // each piece says where the next one begins, so a `for` is no plainer
     loop {
-        let Given::Block(core) = piece_at(m, at) else {
-            return Parts::Bad;
-        };
+        let core = piece_at(m, at)?;
         let next = core.end;
         if next == m.len() {
-            return Parts::Found(core, Cursor { at: 1, end: at });
+            return Some(Parts {
+                core,
+                blocks: Cursor { at: 1, end: at },
+            });
         }
         at = next;
     }
 }
 
-// The next block of those not given yet.
-pub fn next_block(m: &[u8], rest: Cursor) -> Given
+// The next block of those not given yet. The label after it stands where it ends.
+pub fn next_block(m: &[u8], rest: Cursor) -> Option<Cursor>
     requires { Blocks m.now rest.at rest.end }
     ensures { Gave m.now rest.at rest.end result }
 {
     let at = rest.at;
     if at == rest.end {
-        return Given::Nothing;
+        return None;
     }
     piece_at(m, at)
 }

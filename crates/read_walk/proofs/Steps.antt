@@ -6,7 +6,12 @@ use Prim.Native.Nat.{ℕ, ◌+◌, ◌-◌, ◌≤◌}
 use lib.Dec.{eqb}
 use lib.IntN.{ℤ}
 use lib.ListN.{length}
+use Rattle.std.specs.Prelude as code
+use Rattle.std.specs.Prelude.{Result, Ok, Err}
 use Rattle.format.specs.Answer.{Answer, ok, ◌>>=◌, ◌>>◌, need_at}
+use Rattle.format.specs.Refusal.{answered}
+use Rattle.format.specs.declared.refusal.Refusal.{Refusal}
+use Rattle.format.specs.declared.refusal.Refusal.TheVariants.{LabelPlace}
 use Rattle.format.specs.Table.{u16, node_at, deduplicate, NULLABLE, BOOLEAN, RECORD, ARRAY, BLOCK, Node, Fields, leaf_of, top_of, wire_of}
 use Rattle.format.specs.Row.{Place, Row, row, bare, says_words, row_words, record_row, array_row}
 use Rattle.format.specs.Read.{in_message, State, own_label, count_of, take_row, entries, wire, all, leaf, field_count}
@@ -14,18 +19,15 @@ use Rattle.laws.specs.Tree.{depth_wire, HasFields}
 use Rattle.laws.specs.Kinds.{top-is, by-boolean, by-record, by-array, by-block}
 use Rattle.table.specs.Held.{leaf_in, leaf-held, dedup-held}
 use Rattle.label.specs.declared.cursor.Cursor.{Cursor}
-use Rattle.label.specs.declared.cursor.Label as label
 use Rattle.read_pieces.specs.Pieces.{Inside}
-use Rattle.table.specs.declared.nodes.Leaf as code
+use Rattle.table.specs.declared.nodes.Leaf as held
+use Rattle.rows.specs.declared.kind.Kind.{Kind}
+use Rattle.rows.specs.Kind.{word_of}
 use Rattle.read_leaf.specs.declared.Progress.{Progress}
-use Rattle.read_leaf.specs.declared.Progress.TheVariants.{Refused}
-use Rattle.read_leaf.specs.declared.front.Front.{Front}
 use Rattle.read_leaf.specs.declared.front.Size.{Size}
 use Rattle.read_leaf.specs.declared.front.Size.TheVariants.{Of, Below}
-use Rattle.read_leaf.specs.declared.push.Put.{Put}
-use Rattle.read_leaf.specs.declared.push.Put.TheVariants.{Next, Full}
 use Rattle.read_leaf.specs.State.{most_rows, Ready, state_of, Walks, Does}
-use Rattle.read_leaf.specs.Meaning.{front_of, size_label, label_of, held_leaf, held_of}
+use Rattle.read_leaf.specs.Meaning.{front_of, size_label, held_leaf, held_of}
 use Rattle.read_leaf.specs.Push.{put_of, put_in}
 use Rattle.read_leaf.specs.Does.{along, refuses, pushes, push-not}
 use Rattle.read_leaf.specs.Takes.{took-inside, then-does, then-refuses}
@@ -35,17 +37,17 @@ use Rattle.store.specs.Words.{word}
 use Rattle.wire_types.specs.Typed.{held_in, IsNode, IsWire, FitsNode, FitsWire, FitFields, is_nullable, below}
 use Rattle.wire_types.specs.Nodes.{nullable-is, wire-of, fits-fields}
 use Rattle.wire_types.specs.Path.{path_below, path-less, fits-own}
-use Rattle.read_walk.specs.declared.opening.Opening as opening
-use Rattle.read_walk.specs.declared.opening.Seen as seen
-use Rattle.read_walk.specs.Opening.{opened, opened_of, refusal_of, Opens, rest, value_at}
+use Rattle.read_walk.specs.declared.opening.Seen.{Seen}
+use Rattle.read_walk.specs.declared.opening.Seen.TheVariants.{Gone, Here}
+use Rattle.read_walk.specs.Opening.{here, opened, seen_of, opened_of, Opens, rest, value_at}
 use Rattle.read_walk.specs.Walk.{ReadsValue, ReadsWire, ReadsFields, ReadsEntries}
 use Rattle.read_walk.proofs.Opens.{onward, value-opens}
 
 -- ---- a value
 
-module _ (table m w l : List ℕ) (modes node n : ℕ) (o z : Bool) (c : Cursor) (x : opening.Opening) (e : z ≡ eqb (node_at table node).kind NULLABLE) (ready : Ready m w) (d : Opens m c x (opened m modes o z)) where
+module _ (table m w l : List ℕ) (modes node n : ℕ) (o z : Bool) (c : Cursor) (x : Result (Seen × Cursor) Refusal) (e : z ≡ eqb (node_at table node).kind NULLABLE) (ready : Ready m w) (d : Opens m c x (opened m modes o z)) where
   -- by what the labels in front say, and then what is left
-  value-by : {w' l' : List ℕ} {r : Progress}
+  value-by : {w' l' : List ℕ} {r : Result Progress Refusal}
       → ((v : Node) → IsNode table w node v → is_nullable v ≡ z
       → Does m (most_rows (length l)) w w' n l l' r (opened m modes o z (state_of m (most_rows (length l)) w c n) >>= onward m modes (held_in table) v))
       → ReadsValue m w w' l l' c n r table modes node o
@@ -55,28 +57,28 @@ module _ (table m w l : List ℕ) (modes node n : ℕ) (o z : Bool) (c : Cursor)
         along (value-opens m modes (held_in table) o v _ ∙ ap (λ y. opened m modes o y (state_of m (most_rows (length l)) w c n) >>= onward m modes (held_in table) v) q) (f v h q);
   }
 
-  pub value-refused : {l' : List ℕ} {e k : ℕ} → x ≡ opening.TheVariants.Refused e → k ≡ refusal_of x → ReadsValue m w w l l' c n (Refused k) table modes node o
-  value-refused {k = k} q u = value-by (λ v h t. then-refuses _ ((d.takes w ready).took (most_rows (length l)) n) (onward m modes (held_in table) v) (ap opened_of (q ∙ ap opening.TheVariants.Refused (sym (u ∙ ap refusal_of q)))))
+  pub value-refused : {l' : List ℕ} {e : Refusal} → x ≡ Err e → ReadsValue m w w l l' c n (Err e) table modes node o
+  value-refused q = value-by (λ v h t. then-refuses _ ((d.takes w ready).took (most_rows (length l)) n) (onward m modes (held_in table) v) (ap opened_of q))
 
-  pub value_gone : {l' : List ℕ} {r : Progress} {y : seen.Seen} {kind : ℕ} {next : Cursor} → x ≡ opening.TheVariants.Read y next → y ≡ seen.TheVariants.Gone kind → PutsRow n (kind ∷ 0 ∷ 0 ∷ node ∷ []) next l l' r → ReadsValue m w w l l' c n r table modes node o
+  pub value_gone : {l' : List ℕ} {r : Result Progress Refusal} {y : Seen} {kind : Kind} {next : Cursor} → x ≡ Ok (y, next) → y ≡ Gone kind → PutsRow n (word_of kind ∷ 0 ∷ 0 ∷ node ∷ []) next l l' r → ReadsValue m w w l l' c n r table modes node o
   unfolding rest row_words says_words
   value_gone {kind = kind} {next} q u y = value-by (λ v h t.
-      let k = (d.takes w ready).took (most_rows (length l)) n in
-      let e = ap opened_of (q ∙ ap (λ a. opening.TheVariants.Read a next) u) in
-      then-does _ k (onward m modes (held_in table) v) e (y.does m w (top_of v) (bare kind 0) (ap (λ i. kind ∷ 0 ∷ 0 ∷ i ∷ []) (top-is _ _ _ _ node v h)) ready (took-inside _ k e)))
+      let a = (d.takes w ready).took (most_rows (length l)) n in
+      let e = ap opened_of q ∙ ap (λ f. ok (seen_of f, next)) u in
+      then-does _ a (onward m modes (held_in table) v) e (y.does m w (top_of v) (bare (word_of kind) 0) (ap (λ i. word_of kind ∷ 0 ∷ 0 ∷ i ∷ []) (top-is _ _ _ _ node v h)) ready (took-inside _ a e)))
 
-  module _ {front : Front} {next : Cursor} {y : seen.Seen} (p : x ≡ opening.TheVariants.Read y next) (p₁ : y ≡ seen.TheVariants.Here front) where
-    q : x ≡ opening.TheVariants.Read (seen.TheVariants.Here front) next
-    q = p ∙ ap (λ a. opening.TheVariants.Read a next) p₁
+  module _ {front : code.Option ℤ} {next : Cursor} {y : Seen} (p : x ≡ Ok (y, next)) (p₁ : y ≡ Here front) where
+    q : opened_of x ≡ ok (here (front_of front), next)
+    q = ap opened_of p ∙ ap (λ a. ok (seen_of a, next)) p₁
 
-    pub value-here : {w' l' : List ℕ} {r : Progress} {i : ℕ} → i ≡ below z node → ReadsWire m w w' l l' next n r table modes i node (front_of front) → ReadsValue m w w' l l' c n r table modes node o
+    pub value-here : {w' l' : List ℕ} {r : Result Progress Refusal} {i : ℕ} → i ≡ below z node → ReadsWire m w w' l l' next n r table modes i node (front_of front) → ReadsValue m w w' l l' c n r table modes node o
     unfolding rest
     value-here u y = value-by (λ v h t.
-        then-does _ ((d.takes w ready).took (most_rows (length l)) n) (onward m modes (held_in table) v) (ap opened_of q)
+        then-does _ ((d.takes w ready).took (most_rows (length l)) n) (onward m modes (held_in table) v) q
         (rw (top-is _ _ _ _ node v h) ((rw u at y).does (wire_of v) (subst (λ j. IsWire table w (below j node) (wire_of v)) t (wire-of table w node v h)))))
 
     pub opened_inside : Inside m next
-    opened_inside = took-inside _ ((d.takes w ready).took 0 0) (ap opened_of q)
+    opened_inside = took-inside _ ((d.takes w ready).took 0 0) q
 
 pub value-fits : (table w : List ℕ) (left node i path : ℕ) (z : Bool) → z ≡ eqb (node_at table node).kind NULLABLE → i ≡ below z node → path ≡ path_below z left → FitsNode table w left node → FitsWire table w path i
 value-fits table w left node i path z e u q f = rw (u, q) (fits-own table w left node z e f)
@@ -86,9 +88,9 @@ value-less left {z = z} e q = rw q (path-less z left)
 
 -- ---- a record
 
-module _ (table m w l : List ℕ) (modes node top n : ℕ) (front : Front) (c : Cursor) (k : (node_at table node).kind ≡ RECORD) (b : Bool) (x : Bare front b) where
+module _ (table m w l : List ℕ) (modes node top n : ℕ) (front : code.Option ℤ) (c : Cursor) (k : (node_at table node).kind ≡ RECORD) (b : Bool) (x : Bare front b) where
   -- a row, and then the fields
-  record-by : {w' l' : List ℕ} {r : Progress}
+  record-by : {w' l' : List ℕ} {r : Result Progress Refusal}
       → ((ws : Fields) → (node_at table node).argument ≡ field_count ws → HasFields (u16 table 5) (node_at table) (λ i. word w i) (held_in table) (node + 1) ws
       → Does m (most_rows (length l)) w w' n l l' r (need_at b 24 0 >> (take_row (in_message m) (state_of m (most_rows (length l)) w c n) >>= (λ s. all (in_message m) modes (held_in table) ws s >>= (λ y. ok (row top (bare record_row (field_count ws)) ∷ y.0, y.1))))))
       → ReadsWire m w w' l l' c n r table modes node top (front_of front)
@@ -99,16 +101,16 @@ module _ (table m w l : List ℕ) (modes node top n : ℕ) (front : Front) (c : 
         (λ ws t a g. along (ap (λ y. y >> (take_row (in_message m) (state_of m (most_rows (length l)) w c n) >>= (λ s. all (in_message m) modes (held_in table) ws s >>= (λ y. ok (row top (bare record_row (field_count ws)) ∷ y.0, y.1))))) (x.is m)) (f ws a g));
   }
 
-  pub record-24 : {l' : List ℕ} → b ≡ false → ReadsWire m w w l l' c n (Refused 24) table modes node top (front_of front)
+  pub record-24 : {l' : List ℕ} → b ≡ false → ReadsWire m w w l l' c n (Err LabelPlace) table modes node top (front_of front)
   unfolding need_at ◌>>◌
-  record-24 e = record-by (λ ws a g. rw e (refuses 24))
+  record-24 e = record-by (λ ws a g. rw e (refuses LabelPlace refl))
 
-  module _ (e : b ≡ true) (q : Put) (h : q ≡ put_of (most_rows (length l)) n) where
-    pub record-31 : {l' : List ℕ} → q ≡ Full → ReadsWire m w w l l' c n (Refused 31) table modes node top (front_of front)
+  module _ (e : b ≡ true) (q : Result ℕ Refusal) (h : q ≡ put_of (most_rows (length l)) n) where
+    pub record-full : {l' : List ℕ} {u : Refusal} → q ≡ Err u → ReadsWire m w w l l' c n (Err u) table modes node top (front_of front)
     unfolding need_at ◌>>◌
-    record-31 z = record-by (λ ws a g. rw e (push-not c _ h z))
+    record-full z = record-by (λ ws a g. rw e (push-not c _ h z))
 
-    pub record-then : {count next : ℕ} {w' l₁ l₂ : List ℕ} {r : Progress} → count ≡ (node_at table node).argument → l₁ ≡ put_in (most_rows (length l)) l n (9 ∷ count ∷ 0 ∷ top ∷ []) → q ≡ Next next → length l₁ ≡ length l
+    pub record-then : {count next : ℕ} {w' l₁ l₂ : List ℕ} {r : Result Progress Refusal} → count ≡ (node_at table node).argument → l₁ ≡ put_in (most_rows (length l)) l n (9 ∷ count ∷ 0 ∷ top ∷ []) → q ≡ Ok next → length l₁ ≡ length l
         → ReadsFields m w w' l₁ l₂ c next r table modes (node + 1) count → ReadsWire m w w' l l₂ c n r table modes node top (front_of front)
     unfolding need_at ◌>>◌ row_words says_words
     record-then {count} {next} {w'} {l₁} {l₂} {r} u s z y v = record-by (λ ws a g. rw e
@@ -124,9 +126,9 @@ record-fits table w node left count k e f = rw e (fits-fields table w node left 
 unfoldable counted : (table m : List ℕ) (modes top : ℕ) (v : Node) → ℤ × State (in_message m) → Answer (List (Row Place) × State (in_message m))
 counted table m modes top v p = count_of p.0 >>= (λ n. take_row (in_message m) p.1 >>= (λ u. entries (in_message m) n (value_at m modes (held_in table) false v) u >>= (λ y. ok (row top (bare array_row n) ∷ y.0, y.1))))
 
-module _ (table m w l : List ℕ) (modes node top n : ℕ) (front : Front) (c : Cursor) (k : (node_at table node).kind ≡ ARRAY) (ready : Ready m w) (t : label.Label) (x : Owns m front c t) where
+module _ (table m w l : List ℕ) (modes node top n : ℕ) (front : code.Option ℤ) (c : Cursor) (k : (node_at table node).kind ≡ ARRAY) (ready : Ready m w) (t : Result (ℤ × Cursor) Refusal) (x : Owns m front c t) where
   -- the label, and then the rest
-  array-by : {w' l' : List ℕ} {r : Progress}
+  array-by : {w' l' : List ℕ} {r : Result Progress Refusal}
       → ((v : Node) → IsNode table w (node + 1) v
       → Does m (most_rows (length l)) w w' n l l' r (own_label (in_message m) (front_of front) (state_of m (most_rows (length l)) w c n) >>= counted table m modes top v))
       → ReadsWire m w w' l l' c n r table modes node top (front_of front)
@@ -136,45 +138,45 @@ module _ (table m w l : List ℕ) (modes node top n : ℕ) (front : Front) (c : 
         by-array _ _ _ _ (λ u. Walks m w w' c n l l' r (wire (in_message m) modes (held_in table) u top (front_of front))) node v h k (λ u a g. f u g);
   }
 
-  pub array-23 : {l' : List ℕ} → t ≡ label.TheVariants.Bad → ReadsWire m w w l l' c n (Refused 23) table modes node top (front_of front)
-  array-23 q = array-by (λ v g. then-refuses _ ((x.takes w ready).took (most_rows (length l)) n) (counted table m modes top v) (ap label_of q))
+  pub array-not : {l' : List ℕ} {e : Refusal} → t ≡ Err e → ReadsWire m w w l l' c n (Err e) table modes node top (front_of front)
+  array-not q = array-by (λ v g. then-refuses _ ((x.takes w ready).took (most_rows (length l)) n) (counted table m modes top v) (ap answered q))
 
-  module _ {a : ℤ} {core : Cursor} (q : t ≡ label.TheVariants.Got a core) (size : Size) (s : size_label size ≡ a) where
-    pub array-24 : {l' : List ℕ} {j : ℕ} → size ≡ Below j → ReadsWire m w w l l' c n (Refused 24) table modes node top (front_of front)
+  module _ {a : ℤ} {core : Cursor} (q : t ≡ Ok (a, core)) (size : Size) (s : size_label size ≡ a) where
+    pub array-24 : {l' : List ℕ} {j : ℕ} → size ≡ Below j → ReadsWire m w w l l' c n (Err LabelPlace) table modes node top (front_of front)
     unfolding counted count_of ◌>>=◌
-    array-24 z = array-by (λ v g. then-does _ ((x.takes w ready).took (most_rows (length l)) n) (counted table m modes top v) (ap label_of q) (rw (← s, z) (refuses 24)))
+    array-24 z = array-by (λ v g. then-does _ ((x.takes w ready).took (most_rows (length l)) n) (counted table m modes top v) (ap answered q) (rw (← s, z) (refuses LabelPlace refl)))
 
-    module _ {count : ℕ} (z : size ≡ Of count) (p : Put) (h : p ≡ put_of (most_rows (length l)) n) where
-      array-row : {w' l' : List ℕ} {r : Progress}
+    module _ {count : ℕ} (z : size ≡ Of count) (p : Result ℕ Refusal) (h : p ≡ put_of (most_rows (length l)) n) where
+      array-row : {w' l' : List ℕ} {r : Result Progress Refusal}
           → ((v : Node) → IsNode table w (node + 1) v
           → Does m (most_rows (length l)) w w' n l l' r (take_row (in_message m) (state_of m (most_rows (length l)) w core n) >>= (λ u. entries (in_message m) count (value_at m modes (held_in table) false v) u >>= (λ y. ok (row top (bare array_row count) ∷ y.0, y.1)))))
           → ReadsWire m w w' l l' c n r table modes node top (front_of front)
       unfolding counted count_of ◌>>=◌
-      array-row f = array-by (λ v g. then-does _ ((x.takes w ready).took (most_rows (length l)) n) (counted table m modes top v) (ap label_of q) (rw (← s, z) (f v g)))
+      array-row f = array-by (λ v g. then-does _ ((x.takes w ready).took (most_rows (length l)) n) (counted table m modes top v) (ap answered q) (rw (← s, z) (f v g)))
 
-      pub array-31 : {l' : List ℕ} → p ≡ Full → ReadsWire m w w l l' c n (Refused 31) table modes node top (front_of front)
-      array-31 j = array-row (λ v g. push-not core _ h j)
+      pub array-full : {l' : List ℕ} {e : Refusal} → p ≡ Err e → ReadsWire m w w l l' c n (Err e) table modes node top (front_of front)
+      array-full j = array-row (λ v g. push-not core _ h j)
 
-      pub array-then : {next : ℕ} {w' l₁ l₂ : List ℕ} {r : Progress} → l₁ ≡ put_in (most_rows (length l)) l n (10 ∷ count ∷ 0 ∷ top ∷ []) → p ≡ Next next → length l₁ ≡ length l
+      pub array-then : {next : ℕ} {w' l₁ l₂ : List ℕ} {r : Result Progress Refusal} → l₁ ≡ put_in (most_rows (length l)) l n (10 ∷ count ∷ 0 ∷ top ∷ []) → p ≡ Ok next → length l₁ ≡ length l
           → ReadsEntries m w w' l₁ l₂ core next r table modes (node + 1) count → ReadsWire m w w' l l₂ c n r table modes node top (front_of front)
       unfolding row_words says_words
       array-then {next} {w'} {l₁} {l₂} {r} u j y v = array-row (λ b g.
           pushes (row top (bare array_row count)) (entries (in_message m) count (value_at m modes (held_in table) false b)) h u j refl
           (subst (λ k. Does m (most_rows k) w w' next l₁ l₂ r (entries (in_message m) count (value_at m modes (held_in table) false b) (state_of m (most_rows k) w core next))) y (v.does b g)))
 
-  pub own-inside : {a : ℤ} {core : Cursor} → t ≡ label.TheVariants.Got a core → Inside m core
-  own-inside q = took-inside _ ((x.takes w ready).took 0 0) (ap label_of q)
+  pub own-inside : {a : ℤ} {core : Cursor} → t ≡ Ok (a, core) → Inside m core
+  own-inside q = took-inside _ ((x.takes w ready).took 0 0) (ap answered q)
 
 -- ---- a value with nothing below it
 
-pub boolean-does : (table m w l l' : List ℕ) (modes node top n : ℕ) (front : Front) (c : Cursor) (r : Progress) → (node_at table node).kind ≡ BOOLEAN → Ready m w → Boolean m top front c n l l' r
+pub boolean-does : (table m w l l' : List ℕ) (modes node top n : ℕ) (front : code.Option ℤ) (c : Cursor) (r : Result Progress Refusal) → (node_at table node).kind ≡ BOOLEAN → Ready m w → Boolean m top front c n l l' r
     → ReadsWire m w w l l' c n r table modes node top (front_of front)
 boolean-does table m w l l' modes node top n front c r k ready x = record {
   does = λ v h.
       by-boolean _ _ _ _ (λ u. Walks m w w c n l l' r (wire (in_message m) modes (held_in table) u top (front_of front))) node v h k (x.does modes (held_in table) w ready);
 }
 
-pub block-does : (table m w w' l l' : List ℕ) (modes node top n : ℕ) (front : Front) (c : Cursor) (r : Progress) (key : ℕ) (a : code.Leaf) (dedup : Bool) → (node_at table node).kind ≡ BLOCK
+pub block-does : (table m w w' l l' : List ℕ) (modes node top n : ℕ) (front : code.Option ℤ) (c : Cursor) (r : Result Progress Refusal) (key : ℕ) (a : held.Leaf) (dedup : Bool) → (node_at table node).kind ≡ BLOCK
     → key ≡ (node_at table node).argument → a ≡ leaf_in (leaf_of (node_at table (node + 1))) → dedup ≡ deduplicate (node_at table node)
     → Walks m w w' c n l l' r (leaf (in_message m) modes (λ i. held_of a dedup) key (held_leaf a) top (front_of front))
     → ReadsWire m w w' l l' c n r table modes node top (front_of front)

@@ -1,16 +1,18 @@
 -- What stands in front of a value: a label that says that it is absent or null, or that goes on to the value itself.
-use Rattle.std.specs.Prelude.{Bool, true, false, cond, ◌||◌, List, ℕ, ℤ}
+use Rattle.std.specs.Prelude.{Bool, true, false, cond, ◌||◌, List, ℕ, ℤ, Result}
 use Rattle.std.proofs.Math.Option.{Option, none, some}
-use Rattle.format.specs.Answer.{Answer, ok, refuse, ◌>>=◌}
+use Rattle.format.specs.Answer.{Answer, ok, ◌>>=◌}
+use Rattle.format.specs.Refusal.{answered_by}
+use Rattle.format.specs.declared.refusal.Refusal.{Refusal}
 use Rattle.format.specs.Table.{Node, Held, top_of, wire_of}
 use Rattle.format.specs.Row.{bare, null_row, absent_row}
 use Rattle.format.specs.Read.{in_message, State, Read, absent_label, is_label, is_null, take_label, one_row, value, node, wire}
 use Rattle.label.specs.declared.cursor.Cursor.{Cursor}
+use Rattle.rows.specs.Kind.{word_of}
 use Rattle.read_leaf.specs.State.{Ready, Takes}
 use Rattle.read_leaf.specs.Meaning.{front_of}
-use Rattle.read_walk.specs.declared.opening.Opening as opening
-use Rattle.read_walk.specs.declared.opening.Meant as meant
-use Rattle.read_walk.specs.declared.opening.Seen as seen
+use Rattle.read_walk.specs.declared.opening.Seen.{Seen}
+use Rattle.read_walk.specs.declared.opening.Seen.TheVariants.{Gone, Here}
 
 -- The kind of its row, if the value is not there; or the label in front of it, if one was read.
 pub data Opened : Type 0 where
@@ -51,22 +53,16 @@ module _ (m : List ℕ) (modes : ℕ) where
     value_at o v s = value (in_message m) o (top_of v) (λ l t. node (in_message m) modes held v l t) s
 
 -- What the code's answers say of this.
-abbrev pub seen_of : seen.Seen → Opened
-seen_of (seen.TheVariants.Gone kind) = gone kind
-seen_of (seen.TheVariants.Here front) = here (front_of front)
+abbrev pub seen_of : Seen → Opened
+seen_of (Gone kind) = gone (word_of kind)
+seen_of (Here front) = here (front_of front)
 
-abbrev pub meant_of : meant.Meant → Answer Opened
-meant_of (meant.TheVariants.Says x) = ok (seen_of x)
-meant_of meant.TheVariants.Error = refuse 25 0
+abbrev pub meant_of : Result Seen Refusal → Answer Opened
+meant_of r = answered_by seen_of r
 
-abbrev pub opened_of : opening.Opening → Answer (Opened × Cursor)
-opened_of (opening.TheVariants.Read x c) = ok (seen_of x, c)
-opened_of (opening.TheVariants.Refused e) = refuse e 0
-
-abbrev pub refusal_of : opening.Opening → ℕ
-refusal_of (opening.TheVariants.Read x c) = 0
-refusal_of (opening.TheVariants.Refused e) = e
+abbrev pub opened_of : Result (Seen × Cursor) Refusal → Answer (Opened × Cursor)
+opened_of r = answered_by (λ (x : Seen × Cursor). (seen_of x.0, x.1)) r
 
 -- A label is read in the core alone, so that the work is anything.
-pub record Opens (m : List ℕ) (c : Cursor) (r : opening.Opening) (f : State (in_message m) → Answer (Opened × State (in_message m))) : Type 0 where
+pub record Opens (m : List ℕ) (c : Cursor) (r : Result (Seen × Cursor) Refusal) (f : State (in_message m) → Answer (Opened × State (in_message m))) : Type 0 where
   pub takes : (w : List ℕ) → Ready m w → Takes m w w c (opened_of r) f

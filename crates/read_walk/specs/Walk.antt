@@ -1,21 +1,17 @@
 -- What each function of the walk has done: what the definition answers for the type that the table has at its node.
-use Rattle.std.specs.Prelude.{◌≡◌, Bool, true, false, List, ℕ, ℤ}
+use Rattle.std.specs.Prelude.{◌≡◌, Bool, true, false, List, ℕ, ℤ, Result}
 use Rattle.std.proofs.Math.Option.{Option}
+use Rattle.format.specs.declared.refusal.Refusal.{Refusal}
 use Rattle.format.specs.Table.{Wire, Node, Fields}
 use Rattle.format.specs.Read.{in_message, entries, wire, all, field_count}
 use Rattle.label.specs.declared.cursor.Cursor.{Cursor}
 use Rattle.read_leaf.specs.declared.Progress.{Progress}
-use Rattle.read_leaf.specs.declared.Progress.TheVariants.{Done, Refused}
 use Rattle.read_leaf.specs.State.{Walks}
 use Rattle.read_walk.specs.Opening.{value_at}
 use Rattle.wire_types.specs.Typed.{held_in, IsNode, IsWire, AreFields}
 
-abbrev pub refusal_of : Progress → ℕ
-refusal_of (Done c n) = 0
-refusal_of (Refused e) = e
-
 -- The work and the rows before and after a step that began with the core at c and n rows, over the type at a node.
-module _ (m work work' before now : List ℕ) (c : Cursor) (n : ℕ) (r : Progress) (table : List ℕ) (modes node : ℕ) where
+module _ (m work work' before now : List ℕ) (c : Cursor) (n : ℕ) (r : Result Progress Refusal) (table : List ℕ) (modes node : ℕ) where
   pub record ReadsValue (omittable : Bool) : Type 0 where
     pub does : (v : Node) → IsNode table work node v → Walks m work work' c n before now r (value_at m modes (held_in table) omittable v)
 

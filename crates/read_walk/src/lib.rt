@@ -3,256 +3,190 @@
 #![tactic(auto)]
 
 ghost use Rattle.std.specs.Prelude.{◌≡◌, false, ◌+◌, ◌*◌, ◌≤◌, ◌<◌, length};
-ghost use Rattle.format.specs.Table.{node_at, RECORD, ARRAY, BLOCK};
+ghost use Rattle.format.specs.Table.{node_at, BLOCK};
 ghost use Rattle.read_pieces.specs.Pieces.{Inside};
 ghost use Rattle.read_leaf.specs.State.{Ready};
 ghost use Rattle.read_leaf.specs.Meaning.{front_of};
 ghost use Rattle.wire_types.specs.Typed.{Sized, FitsNode, FitsWire};
 ghost use Rattle.wire_types.specs.Run.{FitRun};
-ghost use Rattle.read_walk.specs.Walk.{refusal_of, ReadsValue, ReadsWire, ReadsValues};
+ghost use Rattle.read_walk.specs.Parent.{parent_kind};
+ghost use Rattle.read_walk.specs.Walk.{ReadsValue, ReadsWire, ReadsValues};
 
 pub mod descent;
 pub mod opening;
 pub mod parent;
 
-use descent::Descent;
+use format::Refusal;
 use label::Cursor;
-use opening::{Opening, Seen};
-use parent::Parent;
-use read_leaf::front::Front;
-use read_leaf::{Progress, push};
+use opening::Seen;
+use read_leaf::{Message, Progress, push};
 use table::nodes;
-
-// The number of the refusal, 0 if it is none. Only the number is handed on: to return the answer that was refused would copy
-// all the bytes that an answer may have, which takes longer.
-fn refusal(r: Progress) -> u64
-    ensures { result ≡ refusal_of r }
-{
-    match r {
-        Progress::Refused(number) => number,
-        Progress::Done(_, _) => 0,
-    }
-}
+use table::nodes::Kind;
 
 // The value of a BLOCK.
 fn block(
     table: &[u8],
-    m: &[u8],
+    message: &Message,
     rows: &mut [u64],
     work: &mut [u32],
-    modes: u64,
     node: usize,
     top: usize,
-    front: Front,
-    c: Cursor,
-    n: usize,
-) -> Progress
-    requires { Ready m.now work.old × Inside m.now c × ((node_at table.now node).kind ≡ BLOCK) × ((node_at table.now node).argument < 32) × (15 + 4 * node ≤ length table.now) }
-    ensures { ReadsWire m.now work.old work.new rows.old rows.new c n result table.now modes node top (front_of front) }
+    front: Option<i64>,
+    at: Progress,
+) -> Result<Progress, Refusal>
+    requires { Ready message.now.bytes.now work.old × Inside message.now.bytes.now at.core × ((node_at table.now node).kind ≡ BLOCK) × ((node_at table.now node).argument < 32) × (15 + 4 * node ≤ length table.now) }
+    ensures { ReadsWire message.now.bytes.now work.old work.new rows.old rows.new at.core at.rows result table.now message.now.modes node top (front_of front) }
 {
     let key = nodes::argument_at(table, node);
     let leaf = nodes::leaf_at(table, node + 1);
     let dedup = nodes::deduplicates(table, node);
-    read_leaf::read_leaf(m, rows, work, modes, key, leaf, dedup, top, front, c, n)
+    read_leaf::read_leaf(message, rows, work, key, leaf, dedup, top, front, at)
 }
 
 // The value at a node, its topmost: the row of what is absent or null is under it too. A path may have `left` nodes from
 // this one on, itself among them: 32 at the root, and one less below each node. A checked table has no longer one, so that
 // this ends.
-#[cycle(array_record_value_values_wire)]
+#[cycle(walk)]
 fn value(
     table: &[u8],
-    m: &[u8],
+    message: &Message,
     rows: &mut [u64],
     work: &mut [u32],
-    modes: u64,
     node: usize,
     omittable: bool,
-    c: Cursor,
-    n: usize,
+    at: Progress,
     left: usize,
-) -> Progress
-    requires { Ready m.now work.old × Inside m.now c × Sized table.now × FitsNode table.now work.old left node }
-    ensures { ReadsValue m.now work.old work.new rows.old rows.new c n result table.now modes node omittable }
+) -> Result<Progress, Refusal>
+    requires { Ready message.now.bytes.now work.old × Inside message.now.bytes.now at.core × Sized table.now × FitsNode table.now work.old left node }
+    ensures { ReadsValue message.now.bytes.now work.old work.new rows.old rows.new at.core at.rows result table.now message.now.modes node omittable }
 {
-    let nullable = nodes::kind_at(table, node) == nodes::NULLABLE;
-    let first = opening::open(m, modes, omittable, nullable, c);
-    let Opening::Read(seen, next) = first else {
-        return Progress::Refused(opening::refusal(first));
-    };
+    let nullable = nodes::is_kind(table, node, Kind::Nullable);
+    let (seen, next) = opening::open(message, omittable, nullable, at.core)?;
     match seen {
-        Seen::Gone(row) => push::row(rows, n, row, 0, 0, node, next),
+        Seen::Gone(kind) => push::row(rows, at.rows, kind, 0, 0, node, next),
         Seen::Here(front) => {
             let own = wire_types::below(nullable, node);
             let path = wire_types::path_below(nullable, left);
-            wire(table, m, rows, work, modes, own, node, front, next, n, path)
+            let here = Progress {
+                core: next,
+                rows: at.rows,
+            };
+            wire(table, message, rows, work, own, node, front, here, path)
         }
     }
 }
 
 // By the kind of the value's own node; its row is under the topmost, `top`. `front` is a label in front of it that has been
 // read.
-#[cycle(array_record_value_values_wire)]
+#[cycle(walk)]
 fn wire(
     table: &[u8],
-    m: &[u8],
+    message: &Message,
     rows: &mut [u64],
     work: &mut [u32],
-    modes: u64,
     node: usize,
     top: usize,
-    front: Front,
-    c: Cursor,
-    n: usize,
+    front: Option<i64>,
+    at: Progress,
     left: usize,
-) -> Progress
-    requires { Ready m.now work.old × Inside m.now c × Sized table.now × FitsWire table.now work.old left node }
-    ensures { ReadsWire m.now work.old work.new rows.old rows.new c n result table.now modes node top (front_of front) }
+) -> Result<Progress, Refusal>
+    requires { Ready message.now.bytes.now work.old × Inside message.now.bytes.now at.core × Sized table.now × FitsWire table.now work.old left node }
+    ensures { ReadsWire message.now.bytes.now work.old work.new rows.old rows.new at.core at.rows result table.now message.now.modes node top (front_of front) }
 {
-    let kind = nodes::kind_at(table, node);
-    if kind == nodes::BOOLEAN {
-        return read_leaf::boolean(m, rows, top, front, c, n);
+    // tests one by one: a match on the kind jumps through a table, and each value took a tenth longer
+    if nodes::is_kind(table, node, Kind::Boolean) {
+        return read_leaf::boolean(message.bytes, rows, top, front, at);
     }
-    if kind == nodes::RECORD {
-        return record(table, m, rows, work, modes, node, top, front, c, n, left);
+    if nodes::is_kind(table, node, Kind::Record) {
+        return holder(
+            table, message, rows, work, node, top, false, front, at, left,
+        );
     }
-    if kind == nodes::ARRAY {
-        return array(table, m, rows, work, modes, node, top, front, c, n, left);
+    if nodes::is_kind(table, node, Kind::Array) {
+        return holder(table, message, rows, work, node, top, true, front, at, left);
     }
-    block(table, m, rows, work, modes, node, top, front, c, n)
+    block(table, message, rows, work, node, top, front, at)
 }
 
-// Its row, and then its fields.
-#[cycle(array_record_value_values_wire)]
-fn record(
+// A record or an array: its row, and then what it holds. Entries are walked one by one, however many the label says there
+// are. `repeated`, here and below, is a bool, since the definitions take it as a Bool (`parent_kind`).
+#[cycle(walk)]
+fn holder(
     table: &[u8],
-    m: &[u8],
+    message: &Message,
     rows: &mut [u64],
     work: &mut [u32],
-    modes: u64,
     node: usize,
     top: usize,
-    front: Front,
-    c: Cursor,
-    n: usize,
+    repeated: bool,
+    front: Option<i64>,
+    at: Progress,
     left: usize,
-) -> Progress
-    requires { Ready m.now work.old × Inside m.now c × Sized table.now × FitsWire table.now work.old left node × ((node_at table.now node).kind ≡ RECORD) }
-    ensures { ReadsWire m.now work.old work.new rows.old rows.new c n result table.now modes node top (front_of front) }
+) -> Result<Progress, Refusal>
+    requires { Ready message.now.bytes.now work.old × Inside message.now.bytes.now at.core × Sized table.now × FitsWire table.now work.old left node × ((node_at table.now node).kind ≡ parent_kind repeated) }
+    ensures { ReadsWire message.now.bytes.now work.old work.new rows.old rows.new at.core at.rows result table.now message.now.modes node top (front_of front) }
 {
-    let p = parent::make_row(table, m, rows, node, top, false, front, c, n);
-    let Parent::Made(count, core, next) = p else {
-        return Progress::Refused(parent::refusal(p));
-    };
-    if count == 0 {
-        return Progress::Done(core, next);
+    let p = parent::make_row(table, message.bytes, rows, node, top, repeated, front, at)?;
+    // no call for one that holds nothing
+    if p.count == 0 {
+        return Ok(p.at);
     }
     values(
         table,
-        m,
+        message,
         rows,
         work,
-        modes,
         node + 1,
-        false,
-        core,
-        next,
+        repeated,
+        p.at,
         left - 1,
-        count,
-    )
-}
-
-// The entries are walked one by one, however many the label says there are.
-#[cycle(array_record_value_values_wire)]
-fn array(
-    table: &[u8],
-    m: &[u8],
-    rows: &mut [u64],
-    work: &mut [u32],
-    modes: u64,
-    node: usize,
-    top: usize,
-    front: Front,
-    c: Cursor,
-    n: usize,
-    left: usize,
-) -> Progress
-    requires { Ready m.now work.old × Inside m.now c × Sized table.now × FitsWire table.now work.old left node × ((node_at table.now node).kind ≡ ARRAY) }
-    ensures { ReadsWire m.now work.old work.new rows.old rows.new c n result table.now modes node top (front_of front) }
-{
-    let p = parent::make_row(table, m, rows, node, top, true, front, c, n);
-    let Parent::Made(count, core, next) = p else {
-        return Progress::Refused(parent::refusal(p));
-    };
-    values(
-        table,
-        m,
-        rows,
-        work,
-        modes,
-        node + 1,
-        true,
-        core,
-        next,
-        left - 1,
-        count,
+        p.count,
     )
 }
 
 // So many values: entries, which all have the type at `node`, or fields, the first of them at `node`. One loop for both,
 // so that a call is made for what a record or an array holds, and none for each value, nor for what holds one value alone.
-#[cycle(array_record_value_values_wire)]
+#[cycle(walk)]
 fn values(
     table: &[u8],
-    m: &[u8],
+    message: &Message,
     rows: &mut [u64],
     work: &mut [u32],
-    modes: u64,
     node: usize,
     repeated: bool,
-    c: Cursor,
-    n: usize,
+    at: Progress,
     left: usize,
     count: usize,
-) -> Progress
-    requires { Ready m.now work.old × Inside m.now c × Sized table.now × FitRun table.now work.old left node repeated count }
-    ensures { ReadsValues m.now work.old work.new rows.old rows.new c n result table.now modes node repeated count }
+) -> Result<Progress, Refusal>
+    requires { Ready message.now.bytes.now work.old × Inside message.now.bytes.now at.core × Sized table.now × FitRun table.now work.old left node repeated count }
+    ensures { ReadsValues message.now.bytes.now work.old work.new rows.old rows.new at.core at.rows result table.now message.now.modes node repeated count }
 {
-    let mut k = count;
-    let mut at = node;
-    let mut core = c;
-    let mut i = n;
-    while k != 0 {
-        let omittable = wire_types::may_be_absent(table, at, repeated);
-        let end = wire_types::next_node(work, at, repeated);
-        let start = core;
-        let d = descent::descend(table, m, rows, at, omittable, start, i, left);
-        let Descent::To(inner, absent, from, next, path) = d else {
-            return Progress::Refused(descent::refusal(d));
-        };
-        let r = value(table, m, rows, work, modes, inner, absent, from, next, path);
-        let Progress::Done(after, written) = r else {
-            return Progress::Refused(refusal(r));
-        };
-        at = end;
-        core = after;
-        i = written;
-        k -= 1;
+    // once, and not in each turn
+    let bytes = message.bytes;
+    let mut current = node;
+    let mut reached = at;
+    for _ in 0..count {
+        let omittable = wire_types::may_be_absent(table, current, repeated);
+        let end = wire_types::next_node(work, current, repeated);
+        let d = descent::descend(table, bytes, rows, current, omittable, reached, left)?;
+        let r = value(table, message, rows, work, d.node, d.absent, d.at, d.left)?;
+        current = end;
+        reached = r;
     }
-    Progress::Done(core, i)
+    Ok(reached)
 }
 
 // The whole tree: the value at the table's root, from the first row on.
 pub fn root(
     table: &[u8],
-    m: &[u8],
+    message: &Message,
     rows: &mut [u64],
     work: &mut [u32],
-    modes: u64,
     c: Cursor,
-) -> Progress
-    requires { Ready m.now work.old × Inside m.now c × Sized table.now × FitsNode table.now work.old 32 0 }
-    ensures { ReadsValue m.now work.old work.new rows.old rows.new c 0 result table.now modes 0 false }
+) -> Result<Progress, Refusal>
+    requires { Ready message.now.bytes.now work.old × Inside message.now.bytes.now c × Sized table.now × FitsNode table.now work.old 32 0 }
+    ensures { ReadsValue message.now.bytes.now work.old work.new rows.old rows.new c 0 result table.now message.now.modes 0 false }
 {
-    values(table, m, rows, work, modes, 0, true, c, 0, 32, 1)
+    let at = Progress { core: c, rows: 0 };
+    values(table, message, rows, work, 0, true, at, 32, 1)
 }

@@ -1,31 +1,33 @@
-// The row of a record or an array: judged and made here, whoever comes to it.
+// The row of a record or an array: judged and made here, whoever comes to it. `repeated`, whether it is an array, is a bool,
+// since the definitions take it as a Bool (`parent_kind`).
 ghost use Rattle.std.specs.Prelude.{◌≡◌, [], ◌∷◌, ◌+◌, ◌*◌, ◌≤◌, length};
 ghost use Rattle.format.specs.Table.{node_at};
 ghost use Rattle.read_pieces.specs.Pieces.{Inside};
 ghost use Rattle.read_leaf.specs.State.{most_rows};
 ghost use Rattle.read_leaf.specs.Meaning.{front_of};
 ghost use Rattle.read_leaf.specs.Push.{put_of, put_in};
-ghost use Rattle.read_walk.specs.Parent.{parent_kind, parent_row, parent_by, count_refusal, refusal_of, Counts, MakesRow};
+ghost use Rattle.rows.specs.Kind.{word_of};
+ghost use Rattle.read_walk.specs.Parent.{parent_kind, parent_row, parent_by, Counts, MakesRow};
 
-use label::{Cursor, Label};
-use read_leaf::front::{Front, Size};
-use read_leaf::push::Put;
-use read_leaf::{front, push};
-use rows::kind;
+use format::Refusal;
+use label::Cursor;
+use read_leaf::front::Size;
+use read_leaf::{Progress, front, push};
+use rows::Kind;
 use table::nodes;
 
 // How many values it holds, and the core behind its label.
 #[derive(Clone, Copy)]
-pub enum Count {
-    Of(usize, Cursor),
-    Refused(u64),
+pub struct Count {
+    pub values: usize,
+    pub core: Cursor,
 }
 
-// The same, and how many rows there are with its own.
+// The same, with its row made.
 #[derive(Clone, Copy)]
-pub enum Parent {
-    Made(usize, Cursor, usize),
-    Refused(u64),
+pub struct Parent {
+    pub count: usize,
+    pub at: Progress,
 }
 
 // An array's label says how many entries it holds. A record's fields are in the table, and it is unlabelled: a label in
@@ -35,34 +37,35 @@ pub fn count_of(
     m: &[u8],
     node: usize,
     repeated: bool,
-    front: Front,
+    front: Option<i64>,
     c: Cursor,
-) -> Count
+) -> Result<Count, Refusal>
     requires { Inside m.now c × (11 + 4 * node ≤ length table.now) × ((node_at table.now node).kind ≡ parent_kind repeated) }
     ensures { Counts table.now m.now node repeated (front_of front) c result }
 {
     if repeated {
-        let Label::Got(l, core) = front::own_label(m, front, c) else {
-            return Count::Refused(23);
+        let (l, core) = front::own_label(m, front, c)?;
+        let Size::Of(values) = front::size_of(l) else {
+            return Err(Refusal::LabelPlace);
         };
-        let Size::Of(count) = front::size_of(l) else {
-            return Count::Refused(24);
-        };
-        return Count::Of(count, core);
+        return Ok(Count { values, core });
     }
     if !front::is_bare(front) {
-        return Count::Refused(24);
+        return Err(Refusal::LabelPlace);
     }
-    Count::Of(nodes::argument_at(table, node), c)
+    Ok(Count {
+        values: nodes::argument_at(table, node),
+        core: c,
+    })
 }
 
-fn row_kind(repeated: bool) -> u64
-    ensures { result ≡ parent_row repeated }
+fn row_kind(repeated: bool) -> Kind
+    ensures { word_of result ≡ parent_row repeated }
 {
     if repeated {
-        return kind::ARRAY;
+        return Kind::Array;
     }
-    kind::RECORD
+    Kind::Record
 }
 
 // The row of one that holds so many values, under its topmost node.
@@ -73,14 +76,18 @@ pub fn push_row(
     count: usize,
     top: usize,
     c: Cursor,
-) -> Parent
+) -> Result<Parent, Refusal>
     ensures value { result ≡ parent_by (put_of (most_rows (length rows.old)) n) count c }
     ensures rows_after { rows.new ≡ put_in (most_rows (length rows.old)) rows.old n (parent_row repeated ∷ count ∷ 0 ∷ top ∷ []) }
 {
-    let Put::Next(next) = push::push(rows, n, row_kind(repeated), count as u64, 0, top) else {
-        return Parent::Refused(31);
-    };
-    Parent::Made(count, c, next)
+    let next = push::push(rows, n, row_kind(repeated), count as u64, 0, top)?;
+    Ok(Parent {
+        count,
+        at: Progress {
+            core: c,
+            rows: next,
+        },
+    })
 }
 
 // Judged, and its row made.
@@ -91,35 +98,12 @@ pub fn make_row(
     node: usize,
     top: usize,
     repeated: bool,
-    front: Front,
-    c: Cursor,
-    n: usize,
-) -> Parent
-    requires { Inside m.now c × (11 + 4 * node ≤ length table.now) × ((node_at table.now node).kind ≡ parent_kind repeated) }
-    ensures { MakesRow table.now m.now rows.old rows.new node top repeated (front_of front) c n result }
+    front: Option<i64>,
+    at: Progress,
+) -> Result<Parent, Refusal>
+    requires { Inside m.now at.core × (11 + 4 * node ≤ length table.now) × ((node_at table.now node).kind ≡ parent_kind repeated) }
+    ensures { MakesRow table.now m.now rows.old rows.new node top repeated (front_of front) at.core at.rows result }
 {
-    let counted = count_of(table, m, node, repeated, front, c);
-    let Count::Of(values, core) = counted else {
-        return Parent::Refused(count_refusal(counted));
-    };
-    push_row(rows, n, repeated, values, top, core)
-}
-
-// The number of the refusal, 0 if it is none.
-fn count_refusal(r: Count) -> u64
-    ensures { result ≡ count_refusal r }
-{
-    match r {
-        Count::Refused(number) => number,
-        Count::Of(_, _) => 0,
-    }
-}
-
-pub fn refusal(r: Parent) -> u64
-    ensures { result ≡ refusal_of r }
-{
-    match r {
-        Parent::Refused(number) => number,
-        Parent::Made(_, _, _) => 0,
-    }
+    let counted = count_of(table, m, node, repeated, front, at.core)?;
+    push_row(rows, at.rows, repeated, counted.values, top, counted.core)
 }

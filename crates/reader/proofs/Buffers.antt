@@ -6,15 +6,12 @@ use native.Mathlib.Nat.{sub-zero}
 use native.Mathlib.Omega.{arith}
 use lib.ListN.{length, take, drop, length-append, length-drop, drop_of_length-le}
 use lib.Seq.{sets, sets-eq, take_at, drop_at, take-length}
-use Rattle.format.specs.Answer.{Answer, number, second, output, zeros, padded}
+use Rattle.std.specs.Prelude.{Result, Ok, Err}
+use Rattle.format.specs.Answer.{Answer, output, zeros, padded}
+use Rattle.format.specs.declared.refusal.Refusal.{Refusal}
 use Rattle.format.specs.Row.{Place, Row, row_width, words}
 use Rattle.laws.specs.Rows.{words-length}
-use Rattle.label.specs.declared.cursor.Cursor.{Cursor}
-use Rattle.table.specs.declared.Answer as code
-use Rattle.read_leaf.specs.declared.Progress.{Progress}
-use Rattle.read_leaf.specs.declared.Progress.TheVariants.{Done, Refused}
-use Rattle.wire_types.specs.Typed.{Kept}
-use Rattle.reader.specs.Reader.{Gives, used_by, Answers}
+use Rattle.reader.specs.Reader.{Gives, used_by}
 
 -- what stands behind the first n is set to 0
 rest-zeroed : (vs rest part : List ℕ) (n : ℕ) → length vs ≡ n → part ≡ zeros (length (take (length (vs ++ rest) - n) (drop n (vs ++ rest))))
@@ -36,28 +33,15 @@ rows-padded l part rs h z =
     let b : length (words rs ++ drop (0 + length (words rs)) l) - row_width * length rs ≡ length l - length (words rs) = omega (arith, length-append (words rs) (drop (0 + length (words rs)) l), length-drop (0 + length (words rs)) l) in
     rw s (rest-zeroed (words rs) (drop (0 + length (words rs)) l) part (row_width * length rs) k (rw s at z) ∙ ap (λ i. words rs ++ zeros i) b)
 
-pub answers-refused : {r : Progress} {e : ℕ} → r ≡ Refused e → Answers r (record { number = e; second = 0 })
-answers-refused q = rw q (refl, refl)
-
-pub answers-done : {r : Progress} {c : Cursor} {n : ℕ} → r ≡ Done c n → Answers r (record { number = 0; second = n })
-answers-done q = rw q (refl, refl)
-
--- the answer fits the buffer
-pub used-fits : (table l l₁ w : List ℕ) (a : Answer (List (Row Place))) (r : Progress) → Gives table l l₁ w r a → length l₁ ≡ length l → used_by r ≤ length l₁
-used-fits table l l₁ w a (Done c n) g k = omega (arith, g.2, g.4)
-used-fits table l l₁ w a (Refused e) g k = omega arith
-
 -- what is left behind the answer is set to 0
 abbrev cleared : List ℕ → List ℕ → ℕ → List ℕ
 cleared l part used = take used l ++ (part ++ drop (length l - used) (drop used l))
 
-module _ (table l l₁ w part : List ℕ) (a : Answer (List (Row Place))) (x : code.Answer) (k : length l₁ ≡ length l) where
-  by-step : (r : Progress) → Gives table l l₁ w r a → Answers r x → part ≡ zeros (length (take (length l₁ - used_by r) (drop (used_by r) l₁)))
-      → (x.number ≡ number a) × ((x.second ≡ second (λ rs. length rs) a) × ((cleared l₁ part (used_by r) ≡ output words (length l) a) × Kept table w))
-  unfolding number second output
-  by-step (Refused e) (g, t) y z = rw g (y.0, (y.1, (rest-zeroed [] l₁ part 0 refl z ∙ rw (k, sub-zero) refl, t)))
-  by-step (Done c n) (rs, e, q, s, f, t) y z = rw e (y.0, (y.1 ∙ q, (rw (q, s) (rows-padded l part rs f (rw (q, s) at z)), t)))
+module _ (table l l₁ w part : List ℕ) (a : Answer (List (Row Place))) (k : length l₁ ≡ length l) where
+  by-step : (r : Result ℕ Refusal) → Gives table l l₁ w r a → part ≡ zeros (length (take (length l₁ - used_by r) (drop (used_by r) l₁))) → cleared l₁ part (used_by r) ≡ output words (length l) a
+  unfolding output
+  by-step (Err e) (g, t) z = rw g (rest-zeroed [] l₁ part 0 refl z ∙ rw (k, sub-zero) refl)
+  by-step (Ok n) (rs, e, q, s, f, t) z = rw e (rw (q, s) (rows-padded l part rs f (rw (q, s) at z)))
 
-  pub left-zero : {used : ℕ} (r : Progress) → Gives table l l₁ w r a → Answers r x → used ≡ used_by r → part ≡ zeros (length (take (length l₁ - used) (drop used l₁)))
-      → (x.number ≡ number a) × ((x.second ≡ second (λ rs. length rs) a) × ((cleared l₁ part used ≡ output words (length l) a) × Kept table w))
-  left-zero r g y u z = rw u (by-step r g y (rw u at z))
+  pub left-zero : {used : ℕ} (r : Result ℕ Refusal) → Gives table l l₁ w r a → used ≡ used_by r → part ≡ zeros (length (take (length l₁ - used) (drop used l₁))) → cleared l₁ part used ≡ output words (length l) a
+  left-zero r g u z = rw u (by-step r g (rw u at z))

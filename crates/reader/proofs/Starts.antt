@@ -1,21 +1,22 @@
 -- What a walk begins with: the store is empty, and the blocks wait.
-use mathlib.Core.Path.{◌≡◌, sym, ap, ◌∙◌, subst}
+use mathlib.Core.Path.{◌≡◌, refl, sym, ap, ◌∙◌, subst}
 use mathlib.Core.Bool.{true, false}
 use mathlib.Core.List.{List, []}
 use mathlib.Core.Option.{some}
-use Prim.Native.Nat.{ℕ, ◌%◌, ◌<◌, ◌≤◌}
+use Prim.Native.Nat.{ℕ, ◌≤◌}
 use native.Mathlib.Nat.{sub-zero}
 use native.Mathlib.Omega.{arith}
-use lib.Dec.{leb}
 use lib.ListN.{length}
-use borrow.Author.Tests.{le-leb, lt-leb}
+use Rattle.std.specs.Prelude as code
+use Rattle.std.specs.Prelude.{Result, Ok, Err}
+use Rattle.std.specs.Option.{ok_or}
 use Rattle.format.specs.Answer.{ok, refuse, ◌>>=◌}
+use Rattle.format.specs.declared.refusal.Refusal.{Refusal}
+use Rattle.format.specs.declared.refusal.Refusal.TheVariants.{Pieces}
 use Rattle.format.specs.Modes.{inline_everything}
 use Rattle.format.specs.Read.{Reading, split, no_literals}
-use Rattle.laws.specs.Modes.{inline-is, inline-not}
 use Rattle.label.specs.declared.cursor.Cursor.{Cursor}
 use Rattle.read_pieces.specs.declared.Parts.{Parts}
-use Rattle.read_pieces.specs.declared.Parts.TheVariants.{Found, Bad}
 use Rattle.read_pieces.specs.Chain.{waiting_of, waiting_none}
 use Rattle.read_pieces.specs.Pieces.{reading_of, Blocks, no_blocks, parts_of, Stand, Parted}
 use Rattle.store.specs.Store.{empty, lookup, rested}
@@ -25,16 +26,23 @@ use Rattle.store.specs.Keeping.{moved, cleared}
 use Rattle.read_literals.specs.Words.{store_of, Changes}
 use Rattle.read_literals.specs.Laws.{keeping}
 use Rattle.read_leaf.specs.State.{Ready, state_of}
-use Rattle.reader.specs.declared.Begun as begun
-use Rattle.reader.specs.Reader.{is_sized, start, Begins}
+use Rattle.reader.specs.Reader.{start, Begins}
 
-pub sized-none : (m : List ℕ) → length m < 1 → false ≡ is_sized m
-unfolding is_sized
-sized-none m h = rw (lt-leb 1 (length m) h)
+-- what a `?` behind `ok_or` goes on with, and what it hands on
+module _ {A : Type 0} (o : code.Option A) (e : Refusal) {r : Result A Refusal} (h : r ≡ ok_or o e) where
+  pub or-some : {x : A} → r ≡ Ok x → o ≡ code.Some x
+  or-some q = go o (sym h ∙ q)
+    where
+      go : {x : A} (o : code.Option A) → ok_or o e ≡ Ok x → o ≡ code.Some x
+      go (code.Some y) k = cc
+      go code.None k = absurd (cc)
 
-pub sized-by : (m : List ℕ) → 1 ≤ length m → leb (length m) 65536 ≡ is_sized m
-unfolding is_sized
-sized-by m h = rw (le-leb 1 (length m) h)
+  pub or-none : {d : Refusal} → r ≡ Err d → (o ≡ code.None) × (e ≡ d)
+  or-none q = go o (sym h ∙ q)
+    where
+      go : {d : Refusal} (o : code.Option A) → ok_or o e ≡ Err d → (o ≡ code.None) × (e ≡ d)
+      go (code.Some y) k = absurd (cc)
+      go code.None k = (refl, cc)
 
 start-inline : (m : List ℕ) (modes most : ℕ) → inline_everything modes ≡ true → start m modes most ≡ ok (record { core = record { at = 1; end = length m }; blocks = []; waiting = []; literals = no_literals; rows = most })
 unfolding start split ◌>>=◌
@@ -74,24 +82,24 @@ module _ (m w w₁ w₂ : List ℕ) (at end : ℕ) (small : length m ≤ 65536) 
   state-begun most c = rw (store_is, sub-zero most)
 
 module _ (m w w₁ : List ℕ) (modes : ℕ) (small : length m ≤ 65536) (whole : 16384 ≤ length w) (z₁ : Cleared 1120 w w₁) where
-  pub begin-inline : {w₂ : List ℕ} → 1 ≤ length m → modes % 2 ≡ 1 → Moved w₁ w₂ (rested (record { at = length m; end = length m })) → Begins m modes w w₂ (begun.TheVariants.Core (record { at = 1; end = length m }))
+  pub begin-inline : {w₂ : List ℕ} → 1 ≤ length m → inline_everything modes ≡ true → Moved w₁ w₂ (rested (record { at = length m; end = length m })) → Begins m modes w w₂ (Ok (record { at = 1; end = length m }))
   begin-inline {w₂} h e v₂ = record {
-    is = λ most. ap ok (state-begun m w w₁ w₂ (length m) (length m) small whole z₁ v₂ most (record { at = 1; end = length m }) ∙ rw (waiting_none m (length m))) ∙ sym (start-inline m modes most (inline-is modes e));
+    is = λ most. ap ok (state-begun m w w₁ w₂ (length m) (length m) small whole z₁ v₂ most (record { at = 1; end = length m }) ∙ rw (waiting_none m (length m))) ∙ sym (start-inline m modes most e);
     stands = (ready-begun m w w₁ w₂ (length m) (length m) small whole z₁ v₂ (no_blocks m), record { ordered = h; inside = omega arith }, same-begun m w w₁ w₂ (length m) (length m) small whole z₁ v₂);
   }
 
-  module _ (z : modes % 2 ≡ 1 → ⊥) (r : Parts) (x : Parted m r) where
-    pub begin-bad : r ≡ Bad → Begins m modes w w₁ begun.TheVariants.Bad
-    begin-bad q = record { is = λ most. sym (start-bad m modes most (inline-not modes z) (sym x.is ∙ ap (parts_of m) q)); stands = record { at = λ i h. z₁.below i (omega arith) } }
+  module _ (z : inline_everything modes ≡ false) (r : code.Option Parts) (x : Parted m r) where
+    pub begin-bad : {s : Result Parts Refusal} {e : Refusal} → s ≡ ok_or r Pieces → s ≡ Err e → Begins m modes w w₁ (Err e)
+    begin-bad h k = let (q, d) = or-none r Pieces h k in rw (← d) (record { is = λ most. sym (start-bad m modes most z (sym x.is ∙ ap (parts_of m) q)); stands = record { at = λ i h. z₁.below i (omega arith) } })
 
-    pub begin-found : {w₂ : List ℕ} {core rest : Cursor} → r ≡ Found core rest → Moved w₁ w₂ (rested (record { at = rest.at; end = rest.end })) → Begins m modes w w₂ (begun.TheVariants.Core core)
-    begin-found {w₂} {core} {rest} q v₂ =
-        let s : Stand m (Found core rest) = subst (Stand m) q x.stand in
+    pub begin-found : {w₂ : List ℕ} {p : Parts} → r ≡ code.Some p → Moved w₁ w₂ (rested (record { at = p.blocks.at; end = p.blocks.end })) → Begins m modes w w₂ (Ok p.core)
+    begin-found {w₂} {p} q v₂ =
+        let s : Stand m (code.Some p) = subst (λ (y : code.Option Parts). Stand m y) q x.stand in
         record {
-          is = λ most. ap ok (state-begun m w w₁ w₂ rest.at rest.end small whole z₁ v₂ most core) ∙ sym (start-found m modes most _ _ (inline-not modes z) (sym x.is ∙ ap (parts_of m) q));
-          stands = (ready-begun m w w₁ w₂ rest.at rest.end small whole z₁ v₂ s.1, s.0, same-begun m w w₁ w₂ rest.at rest.end small whole z₁ v₂);
+          is = λ most. ap ok (state-begun m w w₁ w₂ p.blocks.at p.blocks.end small whole z₁ v₂ most p.core) ∙ sym (start-found m modes most _ _ z (sym x.is ∙ ap (parts_of m) q));
+          stands = (ready-begun m w w₁ w₂ p.blocks.at p.blocks.end small whole z₁ v₂ s.1, s.0, same-begun m w w₁ w₂ p.blocks.at p.blocks.end small whole z₁ v₂);
         }
 
     -- where the blocks stand fits the store's words
-    pub rest-small : {core rest : Cursor} → r ≡ Found core rest → (rest.at ≤ 65536) × (rest.end ≤ 65536)
-    rest-small {core} {rest} q = let s : Stand m (Found core rest) = subst (Stand m) q x.stand in (omega (arith, s.1.ordered, s.1.inside), omega (arith, s.1.inside))
+    pub rest-small : {p : Parts} → r ≡ code.Some p → (p.blocks.at ≤ 65536) × (p.blocks.end ≤ 65536)
+    rest-small {p} q = let s : Stand m (code.Some p) = subst (λ (y : code.Option Parts). Stand m y) q x.stand in (omega (arith, s.1.ordered, s.1.inside), omega (arith, s.1.inside))

@@ -14,7 +14,6 @@ use Rattle.label.specs.declared.cursor.Cursor.{Cursor}
 use Rattle.read_pieces.specs.Chain.{waiting_of, none-waiting}
 use Rattle.read_pieces.specs.Pieces.{reading_of, Inside}
 use Rattle.store.specs.declared.Touched.{Touched}
-use Rattle.store.specs.declared.Reading as code
 use Rattle.store.specs.Lists.{upto, upto-length, upto-nth}
 use Rattle.store.specs.Store.{lookup}
 use Rattle.store.specs.Words.{key_of, reading_of as place_of, slot_of, slot_count, slots_of, rest_of}
@@ -74,9 +73,6 @@ module _ (w : List ℕ) (i : ℕ) (r : Touched) (e : nth (slots_of w) i ≡ some
 pub record LeftAt (w : List ℕ) (i : ℕ) : Type 0 where
   pub is : (m : List ℕ) → Ready m w → all_read (in_message m) (slots_of w) ≡ all_read (in_message m) (drop i (slots_of w))
 
-pub left-first : (w : List ℕ) → LeftAt w 0
-left-first w = record { is = λ m g. refl }
-
 module _ (w : List ℕ) (i : ℕ) (r : Touched) (x : LeftAt w i) (e : nth (slots_of w) i ≡ some (touched r)) (h : i < length (slots_of w)) where
   pub left-next : r.at ≡ r.end → LeftAt w (i + 1)
   left-next q = record { is = λ m g. x.is m g ∙ slot-left w i r e h m g ∙ rw (read_all m (touched r).1 (slot-inside w i r e h m g) q) refl }
@@ -96,7 +92,7 @@ module _ (w : List ℕ) (c : Cursor) where
   unfolding is_done
   core-left z = record { is = λ m most n g i. rw (read-not m (reading_of c) i z) refl }
 
-  module _ (e : c.at ≡ c.end) (p : code.Reading) (q : reading p ≡ rest_of w) where
+  module _ (e : c.at ≡ c.end) (p : Cursor) (q : reading p ≡ rest_of w) where
     waits : (m : List ℕ) (b : Bool) → Ready m w → eqb p.at p.end ≡ b → eqb (length (waiting_of m (store_of w).rest.at (store_of w).rest.end)) 0 ≡ b
     unfolding store_of
     waits m b g h = none-waiting g.blocks.chain ∙ subst (λ (x : Reading). eqb x.at x.end ≡ b) q h

@@ -1,22 +1,19 @@
 -- What the functions of the reader promise.
-use Rattle.std.specs.Prelude.{◌≡◌, Bool, ◌&&◌, List, [], ℕ, ◌*◌, ◌≤◌, leb, length}
+use Rattle.std.specs.Prelude.{◌≡◌, Bool, ◌&&◌, List, [], ℕ, ◌*◌, ◌≤◌, leb, length, Result, Ok, Err}
 use Rattle.std.proofs.lemmas.List.Edits.{sets}
-use Rattle.format.specs.Answer.{Answer, ok, refuse, ◌>>=◌}
+use Rattle.format.specs.Answer.{Answer, ok, ◌>>=◌}
+use Rattle.format.specs.Refusal.{refused}
+use Rattle.format.specs.declared.refusal.Refusal.{Refusal}
 use Rattle.format.specs.Table.{schema_of}
 use Rattle.format.specs.Row.{Place, Row, row_width, words}
 use Rattle.format.specs.Modes.{inline_everything}
 use Rattle.format.specs.Read.{in_message, State, split, no_literals, all_read, is_done, read_checked}
-use Rattle.table.specs.declared.Answer as code
 use Rattle.label.specs.declared.cursor.Cursor.{Cursor}
 use Rattle.read_pieces.specs.Pieces.{Inside}
 use Rattle.store.specs.Same.{Same}
 use Rattle.read_literals.specs.Words.{store_of}
 use Rattle.wire_types.specs.Typed.{Kept}
-use Rattle.read_leaf.specs.declared.Progress.{Progress}
-use Rattle.read_leaf.specs.declared.Progress.TheVariants.{Done, Refused}
 use Rattle.read_leaf.specs.State.{Ready, state_of}
-use Rattle.reader.specs.declared.Begun.{Begun}
-use Rattle.reader.specs.declared.Begun.TheVariants.{Core, Bad}
 
 -- «20: message empty or over 65,536 bytes»
 unfoldable pub is_sized : List ℕ → Bool
@@ -28,19 +25,15 @@ rows_of table m lent = do
   schema ← schema_of table
   read_checked schema m lent
 
--- The rows stand in the buffer; after a refusal nothing is said of it. In either case the work is right for another message.
-abbrev pub Gives : List ℕ → List ℕ → List ℕ → List ℕ → Progress → Answer (List (Row Place)) → Type 0
-Gives table before now work (Done c n) a = (rs : List (Row Place)) × (a ≡ ok rs) × (n ≡ length rs) × (now ≡ sets before 0 (words rs)) × (row_width * length rs ≤ length before) × Kept table work
-Gives table before now work (Refused e) a = (a ≡ refuse e 0) × Kept table work
+-- So many rows stand in the buffer; after a refusal nothing is said of it. In either case the work is right for another message.
+abbrev pub Gives : List ℕ → List ℕ → List ℕ → List ℕ → Result ℕ Refusal → Answer (List (Row Place)) → Type 0
+Gives table before now work (Ok n) a = (rs : List (Row Place)) × (a ≡ ok rs) × (n ≡ length rs) × (now ≡ sets before 0 (words rs)) × (row_width * length rs ≤ length before) × Kept table work
+Gives table before now work (Err e) a = (a ≡ refused e) × Kept table work
 
--- how many words of the buffer are the answer's then, and the two numbers
-abbrev pub used_by : Progress → ℕ
-used_by (Done c n) = row_width * n
-used_by (Refused e) = 0
-
-abbrev pub Answers : Progress → code.Answer → Type 0
-Answers (Done c n) r = (r.number ≡ 0) × (r.second ≡ n)
-Answers (Refused e) r = (r.number ≡ e) × (r.second ≡ 0)
+-- how many words of the buffer are the answer's then
+abbrev pub used_by : Result ℕ Refusal → ℕ
+used_by (Ok n) = row_width * n
+used_by (Err e) = 0
 
 -- the state that a walk begins with
 unfoldable pub start : (m : List ℕ) → ℕ → ℕ → Answer (State (in_message m))
@@ -48,15 +41,15 @@ start m modes most = do
   (blocks, core) ← split (inline_everything modes) m
   ok (record { core = core; blocks = []; waiting = blocks; literals = no_literals; rows = most })
 
-abbrev pub begun_of : (m : List ℕ) → ℕ → List ℕ → Begun → Answer (State (in_message m))
-begun_of m most w (Core c) = ok (state_of m most w c 0)
-begun_of m most w Bad = refuse 22 0
+abbrev pub begun_of : (m : List ℕ) → ℕ → List ℕ → Result Cursor Refusal → Answer (State (in_message m))
+begun_of m most w (Ok c) = ok (state_of m most w c 0)
+begun_of m most w (Err e) = refused e
 
-abbrev pub BegunIn : List ℕ → List ℕ → List ℕ → Begun → Type 0
-BegunIn m w w' (Core c) = Ready m w' × Inside m c × Same w w'
-BegunIn m w w' Bad = Same w w'
+abbrev pub BegunIn : List ℕ → List ℕ → List ℕ → Result Cursor Refusal → Type 0
+BegunIn m w w' (Ok c) = Ready m w' × Inside m c × Same w w'
+BegunIn m w w' (Err e) = Same w w'
 
-pub record Begins (m : List ℕ) (modes : ℕ) (w w' : List ℕ) (r : Begun) : Type 0 where
+pub record Begins (m : List ℕ) (modes : ℕ) (w w' : List ℕ) (r : Result Cursor Refusal) : Type 0 where
   pub is : (most : ℕ) → begun_of m most w' r ≡ start m modes most
   pub stands : BegunIn m w w' r
 

@@ -10,14 +10,11 @@ fn all_read(work: &[u32]) -> bool
     requires { Good work.now }
     ensures { AllRead work.now result }
 {
-    let count = store::slot_count(work);
-    let mut i = 0;
-    while i < count {
+    for i in 0..store::slot_count(work) {
         let slot = store::slot_at(work, i);
         if slot.at != slot.end {
             return false;
         }
-        i += 1;
     }
     true
 }

@@ -8,10 +8,14 @@ use native.Mathlib.Omega.{arith}
 use lib.Dec.{ltb, leb, eqb}
 use lib.ListN.{get_or, get_or-eq_default}
 use borrow.Author.Tests.{lt-ltb, le-ltb, le-leb, lt-leb, leb-true, eq-eqb, ne_eqb}
+use Rattle.std.specs.Prelude.{Result, Ok, Err}
 use Rattle.format.specs.Answer.{Answer, ok, refuse, ◌>>=◌, ◌>>◌, need_at, or_refuse}
+use Rattle.format.specs.Refusal.{answered_by}
+use Rattle.format.specs.declared.refusal.Refusal.{Refusal}
 use Rattle.format.specs.Row.{Says, bare, placed, Row, row, Place, true_row, string_row, fixed_row, array_row, is_place, is_inside, from_words, row_width, row_count, row_node, under, row_at, found, look}
 use Rattle.laws.specs.Facts.{by-lt, need-ok}
 use Rattle.rows.specs.declared.Seen.{Seen}
+use Rattle.rows.specs.Placed.{place_inside}
 use Rattle.rows.specs.Seen.{seen, seen_under, found_under, inside, look_at_words, is_some}
 
 -- what is there on a test
@@ -30,10 +34,6 @@ unfolding is_some
 is_none none h = refl
 is_none (some a) h = absurd (true≢false h)
 
-pub is-place : (kind : ℕ) → string_row ≤ kind → kind ≤ fixed_row → is_place kind ≡ true
-unfolding is_place
-is-place kind l h = simp (le-leb string_row kind l, le-leb kind fixed_row h)
-
 pub no_place : (kind : ℕ) → fixed_row < kind → is_place kind ≡ false
 unfolding is_place
 no_place kind h = let l : string_row ≤ kind = omega arith in simp (le-leb string_row kind l, lt-leb kind fixed_row h)
@@ -51,6 +51,10 @@ module _ (kind a b : ℕ) where
   pub from_one : true_row < kind → is_place kind ≡ false → from_words kind a b ≡ cond (leb kind array_row && eqb b 0) (some (bare kind a)) none
   unfolding from_words
   from_one h p = simp (lt-leb kind true_row h, p)
+
+  -- a word that is no kind's
+  pub no-kind : array_row < kind → is_some (from_words kind a b) ≡ false
+  no-kind h = ap is_some (from_one (omega arith) (no_place kind (omega arith))) ∙ some-if _ _ ∙ simp (lt-leb kind array_row h)
 
   module _ (count : ℕ) where
     look-bare : {k x : ℕ} → from_words kind a b ≡ some (bare k x) → look_at_words kind a b count ≡ ok (bare k x)
@@ -74,18 +78,32 @@ module _ (kind a b : ℕ) where
       look_one h p = look-bare (is-some (leb kind array_row && eqb b 0) (from_one h p) row)
 
 -- a place is inside the bytes or refused
-module _ (count kind : ℕ) (p : Place) where
-  pub is-inside : p.start + p.size ≤ count → inside count (placed kind p) ≡ ok (placed kind p)
-  unfolding inside ◌>>◌ need_at is_inside
+module _ (count : ℕ) (p : Place) where
+  pub is-inside : p.start + p.size ≤ count → place_inside count p ≡ ok p
+  unfolding place_inside ◌>>◌ need_at
   is-inside h = simp (le-leb (p.start + p.size) count h)
 
-  pub is-outside : count < p.start + p.size → inside count (placed kind p) ≡ refuse 51 0
-  unfolding inside ◌>>◌ need_at is_inside
+  pub is-outside : count < p.start + p.size → place_inside count p ≡ refuse 51 0
+  unfolding place_inside ◌>>◌ need_at
   is-outside h = simp (lt-leb (p.start + p.size) count h)
+
+  -- with a kind that has one
+  pub placed-inside : (kind : ℕ) {a : Answer Place} → a ≡ place_inside count p → (a >>= (λ q. ok (placed kind q))) ≡ inside count (placed kind p)
+  unfolding place_inside inside is_inside need_at ◌>>◌ ◌>>=◌
+  placed-inside kind e = rw e (go (leb (p.start + p.size) count))
+    where
+      go : (t : Bool) → ((need_at t 51 0 >> ok p) >>= (λ q. ok (placed kind q))) ≡ (need_at t 51 0 >> ok (placed kind p))
+      go true = refl
+      go false = refl
 
 -- what is said, under a node
 abbrev pub under_node : ℕ → Answer (Says Place) → Answer (Row Place)
 under_node n x = x >>= (λ y. ok (row n y))
+
+pub under-answered : (n : ℕ) (r : Result Seen Refusal) → answered_by (seen_under n) r ≡ under_node n (answered_by seen r)
+unfolding ◌>>=◌
+under-answered n (Ok s) = refl
+under-answered n (Err e) = refl
 
 found-words : (n count : ℕ) (o : Option (Says Place)) → (or_refuse (under n o) 51 0 >>= (λ r. need_at (is_inside count r.says) 51 0 >> ok r)) ≡ under_node n (or_refuse o 51 0 >>= inside count)
 unfolding under or_refuse inside need_at ◌>>◌ ◌>>=◌
@@ -163,13 +181,13 @@ module _ (ws : List ℕ) (count i : ℕ) where
         go (refuse n j) = refl
 
     -- whatever was found, if the node is the wanted one
-    pub under-found : (s : Seen) → row_node ws i ≡ node → seen_under (row_node ws i) s ≡ found ws count i → seen s ≡ found_under node ws count i
-    unfolding found_under seen_under ◌>>◌ need_at ◌>>=◌
-    under-found s e f = rw (eq-eqb (row_node ws i) node e, ← f) (go (seen s))
+    pub under-found : (r : Result Seen Refusal) → row_node ws i ≡ node → answered_by (seen_under (row_node ws i)) r ≡ found ws count i → answered_by seen r ≡ found_under node ws count i
+    unfolding found_under ◌>>◌ need_at ◌>>=◌
+    under-found r e f = rw (eq-eqb (row_node ws i) node e, ← f) (go r)
       where
-        go : (x : Answer (Says Place)) → x ≡ (under_node (row_node ws i) x >>= (λ r. ok r.says))
-        go (ok x) = refl
-        go (refuse n j) = refl
+        go : (r : Result Seen Refusal) → answered_by seen r ≡ (answered_by (seen_under (row_node ws i)) r >>= (λ q. ok q.says))
+        go (Ok s) = refl
+        go (Err e) = refl
 
 -- what is found is inside the bytes
 words-passed : (count : ℕ) (o : Option (Says Place)) {x : Says Place} → (or_refuse o 51 0 >>= inside count) ≡ ok x → is_inside count x ≡ true

@@ -1,2 +1,4 @@
-pub mod Seen
+pub mod Kind
 pub mod Placed
+pub mod Seen
+pub mod Words

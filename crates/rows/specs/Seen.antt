@@ -1,38 +1,43 @@
 -- What looking at a row answers, case by case, and what looking at three words gives.
-use Rattle.std.specs.Prelude.{◌≡◌, Bool, true, false, List, ℕ, ◌≤◌, eqb}
+use Rattle.std.specs.Prelude.{◌≡◌, Bool, true, false, List, ℕ, eqb}
 use Rattle.std.proofs.Math.Option.{Option, none, some}
-use Rattle.format.specs.Answer.{Answer, ok, refuse, ◌>>=◌, ◌>>◌, need, or_refuse}
+use Rattle.format.specs.Answer.{Answer, ok, ◌>>=◌, ◌>>◌, need, or_refuse}
 use Rattle.format.specs.Label.{word}
-use Rattle.format.specs.Row.{Says, bare, placed, Row, row, Place, null_row, absent_row, false_row, true_row, integer_row, float_row, record_row, from_words, is_inside, row_node, found, float_of}
+use Rattle.format.specs.Part.{place_of}
+use Rattle.format.specs.Row.{Says, bare, placed, Row, row, Place, null_row, absent_row, false_row, true_row, integer_row, float_row, string_row, bytes_row, fixed_row, record_row, array_row, from_words, is_inside, row_node, found, float_of}
 use Rattle.rows.specs.declared.Seen.{Seen}
-use Rattle.rows.specs.declared.Seen.TheVariants.{Null, Absent, Truth, Integer, Float, Place as At, Count, Refused}
+use Rattle.rows.specs.declared.Seen.TheVariants as case
 
--- «null, absent, a truth, an integer, a 64-bit float with those bits, a place, or a count»: what a row says in each case, or the refusal's number; «looking at a row has 0 there» as its second.
-unfoldable pub seen : Seen → Answer (Says Place)
-seen Null = ok (bare null_row 0)
-seen Absent = ok (bare absent_row 0)
-seen (Truth false) = ok (bare false_row 0)
-seen (Truth true) = ok (bare true_row 0)
-seen (Integer n) = ok (bare integer_row (word n))
-seen (Float f bits) = ok (bare float_row bits)
-seen (At kind start size) = ok (placed kind (record { start = start; size = size }))
-seen (Count kind count) = ok (bare kind count)
-seen (Refused number) = refuse number 0
+-- «null, absent, a truth, an integer, a 64-bit float with those bits, a place, or a count»: what a row says in each case. A refusal in its place is one of format's, with its number; «looking at a row has 0 there» as its second.
+unfoldable pub seen : Seen → Says Place
+seen case.Null = bare null_row 0
+seen case.Absent = bare absent_row 0
+seen (case.Truth false) = bare false_row 0
+seen (case.Truth true) = bare true_row 0
+seen (case.Integer n) = bare integer_row (word n)
+seen (case.Float f bits) = bare float_row bits
+seen (case.String p) = placed string_row (place_of p)
+seen (case.Bytes p) = placed bytes_row (place_of p)
+seen (case.Fixed p) = placed fixed_row (place_of p)
+seen (case.Record count) = bare record_row count
+seen (case.Array count) = bare array_row count
 
 -- the same with the row's node
-unfoldable pub seen_under : ℕ → Seen → Answer (Row Place)
-seen_under node s = seen s >>= (λ x. ok (row node x))
+abbrev pub seen_under : ℕ → Seen → Row Place
+seen_under node s = row node (seen s)
 
--- What this alone does not tell: the float is the one with those bits, and only a record or an array is a count.
+-- What this alone does not tell: the float is the one with those bits.
 unfoldable pub RightCase : Seen → Type 0
-RightCase Null = Unit {0}
-RightCase Absent = Unit {0}
-RightCase (Truth t) = Unit {0}
-RightCase (Integer n) = Unit {0}
-RightCase (Float f bits) = f ≡ float_of bits
-RightCase (At kind start size) = Unit {0}
-RightCase (Count kind count) = record_row ≤ kind
-RightCase (Refused number) = Unit {0}
+RightCase case.Null = Unit {0}
+RightCase case.Absent = Unit {0}
+RightCase (case.Truth t) = Unit {0}
+RightCase (case.Integer n) = Unit {0}
+RightCase (case.Float f bits) = f ≡ float_of bits
+RightCase (case.String p) = Unit {0}
+RightCase (case.Bytes p) = Unit {0}
+RightCase (case.Fixed p) = Unit {0}
+RightCase (case.Record count) = Unit {0}
+RightCase (case.Array count) = Unit {0}
 
 -- Three words, looked at where so many bytes are lent: «row's kind or words not as above, or its place outside the lent bytes»
 unfoldable pub inside : ℕ → Says Place → Answer (Says Place)

@@ -1,22 +1,65 @@
-// The kinds of rows.
-pub const NULL: u64 = 0;
+// The kinds of rows. Each has a word, its place among them.
+ghost use Rattle.std.specs.Prelude.{◌≡◌};
+ghost use Rattle.format.specs.Row.{is_place};
+ghost use Rattle.rows.specs.Kind.{word_of, Decodes};
 
-pub const ABSENT: u64 = 1;
+use format::Refusal;
 
-pub const FALSE: u64 = 2;
+#[derive(Clone, Copy, Debug, PartialEq, Eq)]
+pub enum Kind {
+    Null,
+    Absent,
+    False,
+    True,
+    Integer,
+    Float,
+    String,
+    Bytes,
+    Fixed,
+    Record,
+    Array,
+}
 
-pub const TRUE: u64 = 3;
+impl Kind {
+    // a text, bytes or a fixed: both of its row's words are used
+    #[tactic(auto)]
+    pub fn has_place(self) -> bool
+        ensures { result ≡ is_place (word_of self) }
+    {
+        match self {
+            Kind::String | Kind::Bytes | Kind::Fixed => true,
+            _ => false,
+        }
+    }
+}
 
-pub const INTEGER: u64 = 4;
+impl From<Kind> for u64 {
+    ghost from_gives = { λ kind word. word ≡ word_of kind };
 
-pub const FLOAT: u64 = 5;
+    fn from(kind: Kind) -> u64 {
+        kind as u64
+    }
+}
 
-pub const STRING: u64 = 6;
+impl TryFrom<u64> for Kind {
+    type Error = Refusal;
 
-pub const BYTES: u64 = 7;
+    ghost try_from_gives = { Decodes };
 
-pub const FIXED: u64 = 8;
-
-pub const RECORD: u64 = 9;
-
-pub const ARRAY: u64 = 10;
+    fn try_from(word: u64) -> Result<Kind, Refusal> {
+        match word {
+            0 => Ok(Kind::Null),
+            1 => Ok(Kind::Absent),
+            2 => Ok(Kind::False),
+            3 => Ok(Kind::True),
+            4 => Ok(Kind::Integer),
+            5 => Ok(Kind::Float),
+            6 => Ok(Kind::String),
+            7 => Ok(Kind::Bytes),
+            8 => Ok(Kind::Fixed),
+            9 => Ok(Kind::Record),
+            10 => Ok(Kind::Array),
+            _ => Err(Refusal::BadRow),
+        }
+    }
+}

@@ -1,5 +1,6 @@
 -- Laws of the store for its callers: what stands under a key, and the format's steps at a key's block in these terms.
 use Rattle.std.specs.Prelude.{◌≡◌, Bool, length, drop}
+use Rattle.std.specs.Prelude as code
 use Rattle.std.proofs.Math.Path.{refl}
 use Rattle.std.proofs.Common.{sym, ap, ◌∙◌, arith}
 use Rattle.std.proofs.Math.Bool.{true, false, cond}
@@ -13,9 +14,8 @@ use Rattle.format.specs.Read.{Source, Reading, at_block, nth}
 use Rattle.format.specs.Write.{add_bytes}
 use Rattle.laws.specs.Facts.{by-lt}
 use Rattle.store.specs.Store.{lookup, change, put, move_to}
-use Rattle.store.specs.Meaning.{slot}
-use Rattle.store.specs.declared.Slot.{Slot}
-use Rattle.store.specs.declared.Slot.TheVariants.{At, Untouched}
+use Rattle.store.specs.Meaning.{reading, slot}
+use Rattle.label.specs.declared.cursor.Cursor.{Cursor}
 
 -- ---- what stands under a key
 
@@ -118,12 +118,12 @@ module _ (k : ℕ) (v : List ℕ) where
 
 -- ---- what `find` answered
 
-module _ {r : Slot} {o : Option Reading} (e : slot r ≡ o) where
-  pub is_none : r ≡ Untouched → o ≡ none
-  is_none q = sym e ∙ ap (λ (s : Slot). slot s) q
+module _ {r : code.Option Cursor} {o : Option Reading} (e : slot r ≡ o) where
+  pub is_none : r ≡ code.None → o ≡ none
+  is_none q = sym e ∙ ap (λ (s : code.Option Cursor). slot s) q
 
-  pub is-some : {a b : ℕ} → r ≡ At a b → o ≡ some (record { at = a; end = b })
-  is-some q = sym e ∙ ap (λ (s : Slot). slot s) q
+  pub is-some : {p : Cursor} → r ≡ code.Some p → o ≡ some (reading p)
+  is-some q = sym e ∙ ap (λ (s : code.Option Cursor). slot s) q
 
 -- ---- the j-th of a list
 

@@ -1,23 +1,21 @@
 -- What the code's answers say in the format's terms.
-use Rattle.std.proofs.Math.Option.{Option, none, some}
-use Rattle.std.specs.Prelude.{ℕ, ◌<◌, ◌^◌}
+use Rattle.std.proofs.Math.Option as math
+use Rattle.std.specs.Prelude.{ℕ, ◌<◌, ◌^◌, Option, Some, None}
 use Rattle.format.specs.Read as read
-use Rattle.store.specs.declared.Reading.{Reading}
+use Rattle.label.specs.declared.cursor.Cursor.{Cursor}
 use Rattle.store.specs.declared.Touched.{Touched}
-use Rattle.store.specs.declared.Slot.{Slot}
-use Rattle.store.specs.declared.Slot.TheVariants.{At, Untouched}
 
-abbrev pub reading : Reading → read.Reading
+abbrev pub reading : Cursor → read.Reading
 reading p = record { at = p.at; end = p.end }
 
 abbrev pub touched : Touched → ℕ × read.Reading
 touched s = (s.key, record { at = s.at; end = s.end })
 
-abbrev pub slot : Slot → Option read.Reading
-slot (At at end) = some (record { at = at; end = end })
-slot Untouched = none
+abbrev pub slot : Option Cursor → math.Option read.Reading
+slot (Some p) = math.some (reading p)
+slot None = math.none
 
 -- a word of the work has 32 bits
-abbrev pub Small : Slot → Type 0
-Small (At at end) = (at < 2 ^ 32) × (end < 2 ^ 32)
-Small Untouched = Unit {0}
+abbrev pub Small : Option Cursor → Type 0
+Small (Some p) = (p.at < 2 ^ 32) × (p.end < 2 ^ 32)
+Small None = Unit {0}

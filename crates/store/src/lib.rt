@@ -9,6 +9,8 @@ ghost use Rattle.store.specs.Store.{lookup, opened, advanced, rested};
 ghost use Rattle.store.specs.Words.{slots_of, rest_of, all_of, count_of, start_of, GoodSlots, Moved, Begun, Cleared};
 ghost use Rattle.store.specs.Meaning.{reading, touched, slot, Small};
 
+use label::Cursor;
+
 // The keys of the slots, in order.
 const KEY: usize = 1024;
 
@@ -28,25 +30,19 @@ const SLOTS: usize = 1152;
 const REST: usize = 1153;
 
 // The words from here up to COUNT_END are 0 where there are no literals.
-const NUMBERS: usize = 1155;
+pub const NUMBERS: usize = 1155;
 
 // How many literals there are, all keys together.
-const TOTAL: usize = 1156;
+pub const TOTAL: usize = 1156;
 
 // How many literals each key has.
-const COUNT: usize = 1184;
+pub const COUNT: usize = 1184;
 
 // An empty store has 0 from INDEX up to here.
 const COUNT_END: usize = 1216;
 
 // Where the piece of each key begins. Only the reader keeps it.
 const START: usize = 1216;
-
-#[derive(Clone, Copy)]
-pub struct Reading {
-    pub at: usize,
-    pub end: usize,
-}
 
 // A slot with its key.
 #[derive(Clone, Copy)]
@@ -56,36 +52,12 @@ pub struct Touched {
     pub end: usize,
 }
 
-// What stands under a key.
-#[derive(Clone, Copy)]
-pub enum Slot {
-    At(usize, usize),
-    Untouched,
-}
-
-fn wide(x: u32) -> usize
-    ensures { (result ≡ x) × (result < 2 ^ 32) }
-{
-    x as usize
-}
-
-fn clear_from(work: &mut [u32], from: usize)
-    requires { (16384 ≤ length work.old) × (from ≤ 1216) }
-    ensures { Cleared from work.old work.new }
-{
-    let mut i = from;
-    while i < COUNT_END {
-        work[i] = 0;
-        i += 1;
-    }
-}
-
 // An empty store, whatever the words held.
 pub fn clear(work: &mut [u32])
     requires { 16384 ≤ length work.old }
     ensures { Cleared 1120 work.old work.new }
 {
-    clear_from(work, INDEX);
+    work[INDEX..COUNT_END].fill(0);
 }
 
 // No literals any more. The slots and the blocks of no key stay.
@@ -93,19 +65,21 @@ pub fn forget(work: &mut [u32])
     requires { 16384 ≤ length work.old }
     ensures { Cleared 1155 work.old work.new }
 {
-    clear_from(work, NUMBERS);
+    work[NUMBERS..COUNT_END].fill(0);
 }
 
-// The reading place of a key.
-pub fn find(work: &[u32], key: usize) -> Slot
+// The reading place of a key, if it has been touched.
+pub fn find(work: &[u32], key: usize) -> Option<Cursor>
     requires { (GoodSlots work.now) × (key < 32) }
     ensures result_value { slot result ≡ lookup key (slots_of work.now) }
     ensures small { Small result }
 {
     if work[INDEX + key] == 0 {
-        return Slot::Untouched;
+        return None;
     }
-    Slot::At(wide(work[AT + key]), wide(work[END + key]))
+    let at = work[AT + key] as usize;
+    let end = work[END + key] as usize;
+    Some(Cursor { at, end })
 }
 
 // The number of the next slot, for a key that has none.
@@ -113,7 +87,7 @@ fn next_slot(work: &[u32], key: usize) -> usize
     requires { (GoodSlots work.now) × (key < 32) × (lookup key (slots_of work.now) ≡ none) }
     ensures { (result ≡ length (slots_of work.now)) × (result < 32) }
 {
-    wide(work[SLOTS])
+    work[SLOTS] as usize
 }
 
 // A slot for a key touched now for the first time.
@@ -143,7 +117,7 @@ pub fn slot_count(work: &[u32]) -> usize
     ensures value { result ≡ length (slots_of work.now) }
     ensures upper_bound { result ≤ 32 }
 {
-    wide(work[SLOTS])
+    work[SLOTS] as usize
 }
 
 // Slot i, in the order of first touch.
@@ -152,21 +126,21 @@ pub fn slot_at(work: &[u32], i: usize) -> Touched
     ensures i_value { nth (slots_of work.now) i ≡ some (touched result) }
     ensures key_bound { (result.key < 32) × (result.at < 2 ^ 32) × (result.end < 2 ^ 32) }
 {
-    let key = wide(work[KEY + i]);
-    let at = wide(work[AT + key]);
-    let end = wide(work[END + key]);
+    let key = work[KEY + i] as usize;
+    let at = work[AT + key] as usize;
+    let end = work[END + key] as usize;
     Touched { key, at, end }
 }
 
 // The blocks that no key has been given yet.
-pub fn rest(work: &[u32]) -> Reading
+pub fn rest(work: &[u32]) -> Cursor
     requires { GoodSlots work.now }
     ensures result_value { reading result ≡ rest_of work.now }
     ensures at_bound { (result.at < 2 ^ 32) × (result.end < 2 ^ 32) }
 {
-    let at = wide(work[REST]);
-    let end = wide(work[REST + 1]);
-    Reading { at, end }
+    let at = work[REST] as usize;
+    let end = work[REST + 1] as usize;
+    Cursor { at, end }
 }
 
 pub fn set_rest(work: &mut [u32], at: usize, end: usize)
@@ -190,7 +164,7 @@ pub fn start(work: &[u32], key: usize) -> usize
     requires { (16384 ≤ length work.now) × (key < 32) }
     ensures { (result ≡ start_of work.now key) × (result < 2 ^ 32) }
 {
-    wide(work[START + key])
+    work[START + key] as usize
 }
 
 pub fn set_start(work: &mut [u32], key: usize, start: usize)
@@ -205,7 +179,7 @@ pub fn total(work: &[u32]) -> usize
     requires { 16384 ≤ length work.now }
     ensures { (result ≡ all_of work.now) × (result < 2 ^ 32) }
 {
-    wide(work[TOTAL])
+    work[TOTAL] as usize
 }
 
 // How many literals a key has.
@@ -213,5 +187,5 @@ pub fn count(work: &[u32], key: usize) -> usize
     requires { (16384 ≤ length work.now) × (key < 32) }
     ensures { (result ≡ count_of work.now key) × (result < 2 ^ 32) }
 {
-    wide(work[COUNT + key])
+    work[COUNT + key] as usize
 }

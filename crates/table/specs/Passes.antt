@@ -1,20 +1,16 @@
 -- What the passes of the check answer and leave in the work, in the terms of the code.
-use Rattle.std.specs.Prelude.{◌≡◌, Bool, true, false, cond, ◌||◌, List, ℕ, ◌+◌, ◌-◌, ◌*◌, ◌<◌, ◌≤◌, leb, eqb, length, get_or}
+use Rattle.std.specs.Prelude.{◌≡◌, Bool, true, false, cond, ◌||◌, List, ℕ, ◌+◌, ◌-◌, ◌*◌, ◌<◌, ◌≤◌, leb, eqb, length, get_or, Result, Err}
 use Rattle.std.proofs.Common.{subst}
 use Rattle.std.proofs.lemmas.List.Edits.{sets}
 use Rattle.format.specs.Answer.{Answer, ok, refuse, need, number, zeros, ◌>>=◌, ◌>>◌}
+use Rattle.format.specs.Refusal.{answered}
+use Rattle.format.specs.declared.refusal.Refusal.{Refusal}
 use Rattle.format.specs.Table.{u16, TableNode, node_at, BLOCK, Context, at_root, in_record, in_array, in_nullable, in_block, Node, Schema, is_marked, right_count, right_alone, each, tree, agrees, held_by, is_block_of, check}
 use Rattle.laws.specs.Tree.{ends, Ends}
 use Rattle.laws.specs.Refusals.{refusal_is}
-use Rattle.table.specs.declared.progress.Progress.{Progress}
-use Rattle.table.specs.declared.progress.Progress.TheVariants.{Next, Refused}
+use Rattle.table.specs.Answers.{mapped, answers-err}
 use Rattle.table.specs.declared.tree.Parent.{Parent}
 use Rattle.table.specs.declared.tree.Parent.TheVariants.{Nothing, Record, Array, Nullable, Block}
-
--- The code's answers: `count` is what a success counts.
-unfoldable pub progress_of : {A : Type 0} → (A → ℕ) → Answer A → Progress
-progress_of count (ok a) = Next (count a)
-progress_of count (refuse r i) = Refused r i
 
 abbrev pub context_of : Parent → Context
 context_of Nothing = at_root
@@ -47,17 +43,17 @@ abbrev pub Stored : {A : Type 0} → (A → List ℕ) → ℕ → List ℕ → L
 Stored ends at before now (ok p) = now ≡ sets before at (ends p.0)
 Stored ends at before now (refuse r i) = Unit {0}
 
-pub record Makes {A : Type 0} (ends : A → List ℕ) (at : ℕ) (before now : List ℕ) (r : Progress) (built : Answer (A × ℕ)) : Type 0 where
-  pub answer : r ≡ progress_of (λ p. p.1) built
+pub record Makes {A : Type 0} (ends : A → List ℕ) (at : ℕ) (before now : List ℕ) (r : Result ℕ Refusal) (built : Answer (A × ℕ)) : Type 0 where
+  pub answer : answered r ≡ mapped (λ p. p.1) built
   pub stored : Stored ends at before now built
 
--- the same of the whole tree of n nodes
+-- the same of the whole tree
 abbrev pub StoredTree : List ℕ → List ℕ → Answer Node → Type 0
 StoredTree before now (ok w) = now ≡ sets before 0 (ends 0 w)
 StoredTree before now (refuse r i) = Unit {0}
 
-pub record Planted (before now : List ℕ) (n : ℕ) (r : Progress) (built : Answer Node) : Type 0 where
-  pub answer : r ≡ progress_of (λ w. n) built
+pub record Planted (before now : List ℕ) (r : Result (Unit {0}) Refusal) (built : Answer Node) : Type 0 where
+  pub answer : answered r ≡ mapped (λ w. tt) built
   pub stored : StoredTree before now built
 
 -- the same of all passes: the words of the nodes are the ends, and nothing is said of the other words
@@ -65,8 +61,8 @@ abbrev pub StoredSchema : List ℕ → Answer Schema → Type 0
 StoredSchema now (ok s) = Ends (λ i. get_or now i 0) 0 (ends 0 s.root)
 StoredSchema now (refuse r i) = Unit {0}
 
-pub record Kept (now : List ℕ) (r : Progress) (schema : Answer Schema) : Type 0 where
-  pub answer : r ≡ progress_of (λ s. s.count) schema
+pub record Kept (now : List ℕ) (r : Result ℕ Refusal) (schema : Answer Schema) : Type 0 where
+  pub answer : answered r ≡ mapped (λ s. s.count) schema
   pub stored : StoredSchema now schema
 
 -- what the check leaves in so many lent words, for a walk over the table
@@ -76,6 +72,10 @@ Leaves now lent (refuse r i) = now ≡ zeros lent
 
 pub refused-zeros : (work : ℕ) (table : List ℕ) {now : List ℕ} → (number (check work table) ≡ 0 → ⊥) → Leaves now work (check work table) → now ≡ zeros work
 refused-zeros work table {now} z h = subst (λ (m : Answer Schema). Leaves now work m) (refusal_is (λ s. s.count) (check work table) z) h
+
+-- the same by the code's answer
+pub refused-all : (work : ℕ) (table : List ℕ) {now : List ℕ} {r : Result ℕ Refusal} {e : Refusal} → answered r ≡ mapped (λ s. s.count) (check work table) → r ≡ Err e → Leaves now work (check work table) → now ≡ zeros work
+refused-all work table {now} a q h = subst (λ (m : Answer Schema). Leaves now work m) (answers-err _ _ a q) h
 
 -- What 13 and 14 have shown of a table's nodes before 15 looks at the keys.
 pub record Whole (table : List ℕ) (n : ℕ) : Type 0 where

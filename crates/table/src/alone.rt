@@ -1,49 +1,43 @@
 // Refusal 13: each node judged by itself.
 ghost use Rattle.std.specs.Prelude.{◌≡◌, ◌+◌, ◌*◌, ◌≤◌, length};
 ghost use Rattle.format.specs.Table.{node_at, most_argument, right_alone, each};
-ghost use Rattle.table.specs.Passes.{progress_of, flags_may_stand};
+ghost use Rattle.format.specs.Refusal.{answered};
+ghost use Rattle.table.specs.Kind.{number_of};
+ghost use Rattle.table.specs.Passes.{flags_may_stand};
 
-use super::nodes;
-use super::progress::Progress;
+use super::counted::Counted;
+use super::nodes::{self, Kind};
+use format::Refusal;
 
 // The largest argument of a kind.
-fn most_argument(kind: u8) -> usize
-    ensures { result ≡ most_argument kind }
+#[tactic(auto, unfolding(format::specs::Table::most_argument))]
+fn most_argument(kind: Kind) -> usize
+    ensures { result ≡ most_argument (number_of kind) }
 {
-    if kind == nodes::FIXED {
-        return 4096;
+    match kind {
+        Kind::Fixed => 4096,
+        Kind::Record => 65535,
+        Kind::Block => 31,
+        _ => 0,
     }
-    if kind == nodes::RECORD {
-        return 65535;
-    }
-    if kind == nodes::BLOCK {
-        return 31;
-    }
-    0
 }
 
 // Only a BLOCK deduplicates.
-fn flags_may_stand(kind: u8, flags: u8) -> bool
-    ensures { result ≡ flags_may_stand kind flags }
+#[tactic(auto, unfolding(crate::specs::Passes::flags_may_stand))]
+fn flags_may_stand(kind: Kind, flags: u8) -> bool
+    ensures { result ≡ flags_may_stand (number_of kind) flags }
 {
-    if flags <= 1 {
-        return true;
-    }
-    kind == nodes::BLOCK
+    flags <= 1 || kind == Kind::Block
 }
 
 fn right_alone(table: &[u8], i: usize) -> bool
     requires { 11 + 4 * i ≤ length table.now }
     ensures { result ≡ right_alone (node_at table.now i) }
 {
-    let kind = nodes::kind_at(table, i);
+    let Some(kind) = nodes::kind_at(table, i) else {
+        return false;
+    };
     let flags = nodes::flags_at(table, i);
-    if kind < nodes::STRING {
-        return false;
-    }
-    if nodes::NULLABLE < kind {
-        return false;
-    }
     if 3 < flags {
         return false;
     }
@@ -53,16 +47,13 @@ fn right_alone(table: &[u8], i: usize) -> bool
     nodes::argument_at(table, i) <= most_argument(kind)
 }
 
-pub fn alone(table: &[u8], n: usize) -> Progress
-    requires { 7 + 4 * n ≤ length table.now }
-    ensures { result ≡ progress_of (λ u. n) (each n (λ i. right_alone (node_at table.now i)) 13) }
+pub fn alone(counted: &Counted) -> Result<(), Refusal>
+    ensures { answered result ≡ each counted.now.n (λ i. right_alone (node_at counted.now.table.now i)) 13 }
 {
-    let mut i = 0;
-    while i < n {
-        if !right_alone(table, i) {
-            return Progress::Refused(13, i as u64);
+    for i in 0..counted.n {
+        if !right_alone(counted.table, i) {
+            return Err(Refusal::TableNode(i));
         }
-        i += 1;
     }
-    Progress::Next(n)
+    Ok(())
 }

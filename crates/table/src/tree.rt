@@ -2,15 +2,18 @@
 ghost use Rattle.std.specs.Prelude.{◌≡◌, ◌+◌, ◌*◌, ◌≤◌, ◌<◌, length};
 ghost use Rattle.format.specs.Table.{node_at, is_textual, is_leaf, kind_may_stand, omittable_may_stand, may_stand, stands, Shape, in_record, build, build_fields, below, shape_of, tree};
 ghost use Rattle.laws.specs.Tree.{ends, ends_below, ends_fields};
-ghost use Rattle.table.specs.Passes.{context_of, progress_of, Makes, Planted};
+ghost use Rattle.format.specs.Refusal.{answered};
+ghost use Rattle.table.specs.Kind.{number_in};
+ghost use Rattle.table.specs.Passes.{context_of, Makes, Planted};
 
-use super::nodes;
-use super::progress::Progress;
+use super::counted::Counted;
+use super::nodes::{self, Kind};
+use format::Refusal;
 
 const LONGEST_PATH: usize = 32;
 
 // What a node stands under; of a BLOCK, does it deduplicate?
-#[derive(Clone, Copy)]
+#[derive(Clone, Copy, Debug, PartialEq, Eq)]
 pub enum Parent {
     Nothing,
     Record,
@@ -19,186 +22,150 @@ pub enum Parent {
     Block(bool),
 }
 
-fn is_textual(kind: u8) -> bool
-    ensures { result ≡ is_textual kind }
+#[tactic(auto, unfolding(format::specs::Table::is_textual))]
+fn is_textual(kind: Option<Kind>) -> bool
+    ensures { result ≡ is_textual (number_in kind) }
 {
-    if kind == nodes::STRING {
-        return true;
-    }
-    kind == nodes::BYTES
+    matches!(kind, Some(Kind::String | Kind::Bytes))
 }
 
 // Does it stand in BLOCKs only?
-fn is_leaf(kind: u8) -> bool
-    ensures { result ≡ is_leaf kind }
+#[tactic(auto, unfolding(format::specs::Table::is_leaf, format::specs::Table::is_textual))]
+fn is_leaf(kind: Option<Kind>) -> bool
+    ensures { result ≡ is_leaf (number_in kind) }
 {
-    if is_textual(kind) {
-        return true;
-    }
-    if kind == nodes::VARINT {
-        return true;
-    }
-    if kind == nodes::FLOAT64 {
-        return true;
-    }
-    kind == nodes::FIXED
+    matches!(
+        kind,
+        Some(Kind::String | Kind::Bytes | Kind::Varint | Kind::Float64 | Kind::Fixed)
+    )
 }
 
-fn kind_may_stand(parent: Parent, kind: u8) -> bool
-    ensures { result ≡ kind_may_stand (context_of parent) kind }
+#[tactic(auto, unfolding(format::specs::Table::kind_may_stand))]
+fn kind_may_stand(parent: Parent, kind: Option<Kind>) -> bool
+    ensures { result ≡ kind_may_stand (context_of parent) (number_in kind) }
 {
     match parent {
-        Parent::Nothing => !is_leaf(kind),
-        Parent::Record => !is_leaf(kind),
-        Parent::Array => !is_leaf(kind),
-        Parent::Nullable => {
-            if is_leaf(kind) {
-                return false;
-            }
-            kind != nodes::NULLABLE
-        }
-        Parent::Block(dedup) => {
-            if dedup {
-                return is_textual(kind);
-            }
-            is_leaf(kind)
-        }
+        Parent::Nothing | Parent::Record | Parent::Array => !is_leaf(kind),
+        Parent::Nullable => !is_leaf(kind) && kind != Some(Kind::Nullable),
+        Parent::Block(true) => is_textual(kind),
+        Parent::Block(false) => is_leaf(kind),
     }
 }
 
+#[tactic(auto, unfolding(format::specs::Table::omittable_may_stand))]
 fn omittable_may_stand(parent: Parent) -> bool
     ensures { result ≡ omittable_may_stand (context_of parent) }
 {
-    match parent {
-        Parent::Nothing => false,
-        Parent::Record => true,
-        Parent::Array => false,
-        Parent::Nullable => false,
-        Parent::Block(_) => false,
-    }
+    matches!(parent, Parent::Record)
 }
 
 fn may_stand(table: &[u8], parent: Parent, i: usize) -> bool
     requires { 11 + 4 * i ≤ length table.now }
     ensures { result ≡ may_stand (context_of parent) (node_at table.now i) }
 {
-    if !kind_may_stand(parent, nodes::kind_at(table, i)) {
-        return false;
-    }
-    if nodes::is_omittable(table, i) {
-        return omittable_may_stand(parent);
-    }
-    true
+    kind_may_stand(parent, nodes::kind_at(table, i))
+        && (!nodes::is_omittable(table, i) || omittable_may_stand(parent))
 }
 
 // Is there a node i, may it stand there, and is the path not too long with it?
-fn stand(table: &[u8], n: usize, path: usize, parent: Parent, i: usize) -> Progress
-    requires { 7 + 4 * n ≤ length table.now }
-    ensures { result ≡ progress_of (λ u. i) (stands n (node_at table.now) path (context_of parent) i) }
+fn stand(counted: &Counted, path: usize, parent: Parent, i: usize) -> Result<(), Refusal>
+    ensures { answered result ≡ stands counted.now.n (node_at counted.now.table.now) path (context_of parent) i }
 {
-    if n <= i {
-        return Progress::Refused(14, n as u64);
+    if counted.n <= i {
+        return Err(Refusal::TableTree(counted.n));
     }
     if path == 0 {
-        return Progress::Refused(14, i as u64);
+        return Err(Refusal::TableTree(i));
     }
-    if !may_stand(table, parent, i) {
-        return Progress::Refused(14, i as u64);
+    if !may_stand(counted.table, parent, i) {
+        return Err(Refusal::TableTree(i));
     }
-    Progress::Next(i)
+    Ok(())
 }
 
 // Node i and all below it, on a path of at most so many nodes from here on; then the node after it.
 #[cycle(fields_node_under)]
-fn node(table: &[u8], work: &mut [u32], n: usize, path: usize, parent: Parent, i: usize) -> Progress
-    requires { (7 + 4 * n ≤ length table.now) × (n ≤ 1024) × (n ≤ length work.old) }
-    ensures { Makes (ends i) i work.old work.new result (build n (node_at table.now) path (context_of parent) i) }
+fn node(
+    counted: &Counted,
+    work: &mut [u32],
+    path: usize,
+    parent: Parent,
+    i: usize,
+) -> Result<usize, Refusal>
+    requires { counted.now.n ≤ length work.old }
+    ensures { Makes (ends i) i work.old work.new result (build counted.now.n (node_at counted.now.table.now) path (context_of parent) i) }
 {
     if path == 0 {
-        return Progress::Refused(14, i as u64);
+        return Err(Refusal::TableTree(i));
     }
-    let first = stand(table, n, path, parent, i);
-    let Progress::Next(_) = first else {
-        return first;
-    };
-    let r = under(table, work, n, path - 1, i);
-    let Progress::Next(j) = r else {
-        return r;
-    };
+    stand(counted, path, parent, i)?;
+    let j = under(counted, work, path - 1, i)?;
     work[i] = j as u32;
-    // made anew: a copy would copy the bytes behind the answer's tag too, which takes longer
-    Progress::Next(j)
+    Ok(j)
 }
 
 // What is below node i; then the node after it.
 #[cycle(fields_node_under)]
-fn under(table: &[u8], work: &mut [u32], n: usize, path: usize, i: usize) -> Progress
-    requires { (7 + 4 * n ≤ length table.now) × (n ≤ 1024) × (n ≤ length work.old) × (i < n) }
+fn under(counted: &Counted, work: &mut [u32], path: usize, i: usize) -> Result<usize, Refusal>
+    requires { (counted.now.n ≤ length work.old) × (i < counted.now.n) }
     ensures { Makes (ends_below i) (i + 1) work.old work.new result
-        (below n (node_at table.now) (shape_of (node_at table.now i).kind) path (build n (node_at table.now) path) i) }
+        (below counted.now.n (node_at counted.now.table.now) (shape_of (node_at counted.now.table.now i).kind) path (build counted.now.n (node_at counted.now.table.now) path) i) }
 {
-    let kind = nodes::kind_at(table, i);
-    if kind == nodes::RECORD {
-        return fields(table, work, n, path, nodes::argument_at(table, i), i + 1);
+    match nodes::kind_at(counted.table, i) {
+        Some(Kind::Record) => fields(
+            counted,
+            work,
+            path,
+            nodes::argument_at(counted.table, i),
+            i + 1,
+        ),
+        Some(Kind::Array) => node(counted, work, path, Parent::Array, i + 1),
+        Some(Kind::Block) => leaf(counted, work, path, i),
+        Some(Kind::Nullable) => node(counted, work, path, Parent::Nullable, i + 1),
+        _ => Ok(i + 1),
     }
-    if kind == nodes::ARRAY {
-        return node(table, work, n, path, Parent::Array, i + 1);
-    }
-    if kind == nodes::BLOCK {
-        return leaf(table, work, n, path, i);
-    }
-    if kind == nodes::NULLABLE {
-        return node(table, work, n, path, Parent::Nullable, i + 1);
-    }
-    Progress::Next(i + 1)
 }
 
 // The child of the BLOCK at i.
-fn leaf(table: &[u8], work: &mut [u32], n: usize, path: usize, i: usize) -> Progress
-    requires { (7 + 4 * n ≤ length table.now) × (n ≤ 1024) × (n ≤ length work.old) × (i < n) }
+fn leaf(counted: &Counted, work: &mut [u32], path: usize, i: usize) -> Result<usize, Refusal>
+    requires { (counted.now.n ≤ length work.old) × (i < counted.now.n) }
     ensures { Makes (ends_below i) (i + 1) work.old work.new result
-        (below n (node_at table.now) Shape.leaf path (build n (node_at table.now) path) i) }
+        (below counted.now.n (node_at counted.now.table.now) Shape.leaf path (build counted.now.n (node_at counted.now.table.now) path) i) }
 {
-    let parent = Parent::Block(nodes::deduplicates(table, i));
-    let r = stand(table, n, path, parent, i + 1);
-    let Progress::Next(_) = r else {
-        return r;
-    };
+    let parent = Parent::Block(nodes::deduplicates(counted.table, i));
+    stand(counted, path, parent, i + 1)?;
     work[i + 1] = (i + 2) as u32;
-    Progress::Next(i + 2)
+    Ok(i + 2)
 }
 
 // So many fields, from node i on; then the node after them.
 #[cycle(fields_node_under)]
-fn fields(table: &[u8], work: &mut [u32], n: usize, path: usize, count: usize, i: usize) -> Progress
-    requires { (7 + 4 * n ≤ length table.now) × (n ≤ 1024) × (n ≤ length work.old) }
+fn fields(
+    counted: &Counted,
+    work: &mut [u32],
+    path: usize,
+    count: usize,
+    i: usize,
+) -> Result<usize, Refusal>
+    requires { counted.now.n ≤ length work.old }
     ensures { Makes (ends_fields i) i work.old work.new result
-        (build_fields n (node_at table.now) count (build n (node_at table.now) path in_record) i) }
+        (build_fields counted.now.n (node_at counted.now.table.now) count (build counted.now.n (node_at counted.now.table.now) path in_record) i) }
 {
-    let mut k = count;
     let mut at = i;
-    while k != 0 {
-        let r = node(table, work, n, path, Parent::Record, at);
-        let Progress::Next(j) = r else {
-            return r;
-        };
-        at = j;
-        k -= 1;
+    for _ in 0..count {
+        at = node(counted, work, path, Parent::Record, at)?;
     }
-    Progress::Next(at)
+    Ok(at)
 }
 
 // The whole tree, which uses all n nodes.
-pub fn tree(table: &[u8], work: &mut [u32], n: usize) -> Progress
-    requires { (7 + 4 * n ≤ length table.now) × (n ≤ 1024) × (n ≤ length work.old) }
-    ensures { Planted work.old work.new n result (tree n (node_at table.now)) }
+pub fn tree(counted: &Counted, work: &mut [u32]) -> Result<(), Refusal>
+    requires { counted.now.n ≤ length work.old }
+    ensures { Planted work.old work.new result (tree counted.now.n (node_at counted.now.table.now)) }
 {
-    let r = node(table, work, n, LONGEST_PATH, Parent::Nothing, 0);
-    let Progress::Next(j) = r else {
-        return r;
-    };
-    if j != n {
-        return Progress::Refused(14, j as u64);
+    let j = node(counted, work, LONGEST_PATH, Parent::Nothing, 0)?;
+    if j != counted.n {
+        return Err(Refusal::TableTree(j));
     }
-    r
+    Ok(())
 }

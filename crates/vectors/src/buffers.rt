@@ -1,79 +1,71 @@
 // Lent buffers: dirty before a call; after it the wanted words in front, zeros to the end of what was lent, and beyond
-// that nothing changed. One copy for each width.
+// that nothing changed.
+ghost use Rattle.std.specs.Prelude.{◌≤◌, length};
 
-const DIRTY: u64 = 0xa5a5a5a5a5a5a5a5;
+pub trait Word: Copy + PartialEq {
+    const ZERO: Self;
 
-const DIRTY_WORD: u32 = 0xa5a5a5a5;
-
-const DIRTY_BYTE: u8 = 0xa5;
-
-pub fn soil_rows(rows: &mut [u64]) {
-    rows.fill(DIRTY);
+    const DIRTY: Self;
 }
 
-pub fn soil_work(work: &mut [u32]) {
-    work.fill(DIRTY_WORD);
+impl Word for u8 {
+    const ZERO: u8 = 0;
+
+    const DIRTY: u8 = 0xa5;
 }
 
-pub fn soil_bytes(bytes: &mut [u8]) {
-    bytes.fill(DIRTY_BYTE);
+impl Word for u32 {
+    const ZERO: u32 = 0;
+
+    const DIRTY: u32 = 0xa5a5a5a5;
 }
 
-fn row_word(wanted: &[u64], lent: usize, i: usize) -> u64 {
-    if i < wanted.len() {
-        return wanted[i];
+impl Word for u64 {
+    const ZERO: u64 = 0;
+
+    const DIRTY: u64 = 0xa5a5a5a5a5a5a5a5;
+}
+
+// How many words to lend, at most all.
+pub fn lent(size: usize, count: u64) -> usize
+    ensures { result ≤ size }
+{
+    count.min(size as u64) as usize
+}
+
+// Makes all dirty, and tells how many words to lend.
+pub fn soil<W: Word>(words: &mut [W], count: u64) -> usize
+    ensures { result ≤ length words.new }
+{
+    // `fill` asks that `clone` cannot fail, which a type parameter does not promise.
+    for word in words.iter_mut() {
+        *word = W::DIRTY;
     }
-    if i < lent {
-        return 0;
-    }
-    DIRTY
+    lent(words.len(), count)
 }
 
-pub fn rows_hold(rows: &[u64], wanted: &[u64], lent: usize) -> bool {
-    for (i, word) in rows.iter().enumerate() {
-        if *word != row_word(wanted, lent, i) {
+pub fn hold<W: Word>(words: &[W], wanted: &[W], lent: usize) -> bool {
+    for (i, word) in words.iter().enumerate() {
+        let expected = match wanted.get(i) {
+            Some(there) => *there,
+            None if i < lent => W::ZERO,
+            None => W::DIRTY,
+        };
+        if *word != expected {
             return false;
         }
     }
     true
 }
 
-fn out_byte(wanted: &[u8], lent: usize, i: usize) -> u8 {
-    if i < wanted.len() {
-        return wanted[i];
-    }
-    if i < lent {
-        return 0;
-    }
-    DIRTY_BYTE
-}
-
-pub fn out_holds(out: &[u8], wanted: &[u8], lent: usize) -> bool {
-    for (i, byte) in out.iter().enumerate() {
-        if *byte != out_byte(wanted, lent, i) {
-            return false;
-        }
-    }
-    true
-}
-
-fn work_word(lent: usize, i: usize) -> u32 {
-    if i < lent {
-        return 0;
-    }
-    DIRTY_WORD
-}
-
-// Of work nothing is wanted but zeros.
-pub fn work_holds(work: &[u32], lent: usize) -> bool {
-    for (i, word) in work.iter().enumerate() {
-        if *word != work_word(lent, i) {
-            return false;
-        }
-    }
-    true
-}
-
-pub fn are_same(bytes: &[u8], wanted: &[u8]) -> bool {
-    bytes == wanted
+// Where the lists of a case are put, and what is lent to a call.
+#[derive(Drop)]
+pub struct Buffers {
+    pub table: [u8; 73728],
+    pub bytes: [u8; 73728],
+    pub message: [u8; 73728],
+    pub out: [u8; 73728],
+    pub rows: [u64; 33000],
+    pub wanted: [u64; 33000],
+    pub work: [u32; 21504],
 }

@@ -1,6 +1,7 @@
 // The wire type that a checked table has at a node, for the walks of the reader and of the writer; most of it is in specs/.
 // And what both walks ask on their way: whether a value of a run may be absent, where its own node is, what is left of the
-// path there, and where the next value's node is.
+// path there, and where the next value's node is. The flags `nullable` and `repeated` are a bool each, since the definitions
+// take each as a Bool.
 #![tactic(auto)]
 
 ghost use Rattle.std.specs.Prelude.{◌≡◌, ◌+◌, ◌*◌, ◌≤◌, ◌<◌, length};
@@ -16,10 +17,7 @@ pub fn may_be_absent(table: &[u8], node: usize, repeated: bool) -> bool
     requires { 11 + 4 * node ≤ length table.now }
     ensures { result ≡ absent_in repeated (node_at table.now node) }
 {
-    if repeated {
-        return false;
-    }
-    nodes::is_omittable(table, node)
+    !repeated && nodes::is_omittable(table, node)
 }
 
 // The value's own node, behind a NULLABLE or not.
@@ -27,10 +25,7 @@ pub fn below(nullable: bool, node: usize) -> usize
     requires { node < 1024 }
     ensures { result ≡ below_of nullable node }
 {
-    if nullable {
-        return node + 1;
-    }
-    node
+    if nullable { node + 1 } else { node }
 }
 
 // The path that is left at the value's own node: a NULLABLE is a node of it too.
@@ -38,10 +33,7 @@ pub fn path_below(nullable: bool, left: usize) -> usize
     requires { 1 ≤ left }
     ensures { result ≡ path_below nullable left }
 {
-    if nullable {
-        return left - 1;
-    }
-    left
+    if nullable { left - 1 } else { left }
 }
 
 // The node of the next value.
@@ -50,7 +42,8 @@ pub fn next_node(work: &[u32], node: usize, repeated: bool) -> usize
     ensures { result ≡ next_in repeated node work.now }
 {
     if repeated {
-        return node;
+        node
+    } else {
+        nodes::end_at(work, node)
     }
-    nodes::end_at(work, node)
 }

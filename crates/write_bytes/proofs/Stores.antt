@@ -1,68 +1,65 @@
--- Bytes stored one by one, and the 00 behind a part.
-use mathlib.Core.Path.{◌≡◌, sym, ap, ◌∙◌}
+-- Bytes stored, and the 00 behind a part.
+use mathlib.Core.Path.{◌≡◌, refl, sym, ap, ◌∙◌}
 use mathlib.Core.Bool.{Bool, true, false}
-use mathlib.Core.List.{List, [], ◌∷◌, ◌++◌}
-use Prim.Native.Nat.{ℕ, suc, ◌+◌, ◌-◌, ◌/◌, ◌%◌, ◌<◌, ◌≤◌}
+use mathlib.Core.List.{List, [], ◌++◌, append-nil}
+use Prim.Native.Nat.{ℕ, ◌+◌, ◌-◌, ◌<◌, ◌≤◌}
+use Rattle.std.proofs.Math.Nat.{div-div-eq-div-mul}
 use native.Mathlib.Nat.{add-suc}
 use native.Mathlib.Numerals.{add-one}
 use native.Mathlib.Omega.{arith}
-use lib.ListN.{length, length-append, get_or, set, drop, drop_of_length-le}
-use lib.Seq.{sets, drop-cons}
+use lib.ListN.{length, length-append, get_or, set, take, drop, drop_of_length-le}
+use lib.Seq.{sets, drop-cons, take-length, length-sets}
+use borrow.Rule.Slice.PartMut.{put_mid}
+use mir.Syntax.{w64}
+use Rattle.std.specs.Int.{to_le_bytes}
+use Rattle.std.proofs.lemmas.List.Edits.{sets-eq}
+use Rattle.std.proofs.lemmas.Slice.{put_mid-paste}
 use Rattle.format.specs.Row.{Place, bytes_at}
 use Rattle.format.specs.Read.{ending}
 use Rattle.format.specs.Write.{little_endian_bytes}
 use Rattle.laws.specs.Lists.{sets-append}
-use Rattle.write_search.specs.Parts.{part_length, part_at}
 
--- the first of some bytes is stored, and the others go behind it
-stored : (out : List ℕ) (at i x : ℕ) {bs rest : List ℕ} → bs ≡ x ∷ rest → sets (set out (at + i) x) (at + (i + 1)) rest ≡ sets out (at + i) bs
-stored out at i x {bs} {rest} e = rw (e, add-one i, add-suc at i)
+-- so many bytes of the output are overwritten
+pub written : (out : List ℕ) (at n : ℕ) {ys bs : List ℕ} → ys ≡ bs → length bs ≡ n → at + n ≤ length out → put_mid at (at + n - at) out ys ≡ sets out at bs
+written out at n {ys} {bs} e l h =
+    let a : at + length bs ≤ length out = omega arith in
+    let k : length bs ≡ at + n - at = omega arith in
+    put_mid-paste at (at + n - at) out ys bs (length bs) e k refl ∙ rw (take-length bs) (sym (sets-eq bs out at a))
 
-module _ (out pool : List ℕ) (at : ℕ) (p : Place) (inside : p.start + p.size ≤ length pool) where
-  pub copied_more : (i : ℕ) → i < p.size
-      → sets (set out (at + i) (get_or pool (p.start + i) 0)) (at + (i + 1)) (drop (i + 1) (bytes_at pool p)) ≡ sets out (at + i) (drop i (bytes_at pool p))
-  copied_more i h =
-      let l : i < length (bytes_at pool p) = omega (arith, part_length pool p inside) in
-      let e : drop i (bytes_at pool p) ≡ get_or pool (p.start + i) 0 ∷ drop (i + 1) (bytes_at pool p) = rw (add-one i, ← part_at pool p i h) (drop-cons (bytes_at pool p) i 0 l) in
-      stored out at i _ e
+-- a word's bytes
+pub word-bytes : (word : ℕ) → to_le_bytes w64 word ≡ little_endian_bytes 8 word
+unfolding little_endian_bytes
+word-bytes word = simp div-div-eq-div-mul
 
-  pub copied : (i : ℕ) → p.size ≤ i → sets out (at + i) (drop i (bytes_at pool p)) ≡ out
-  copied i h =
-      let e : drop i (bytes_at pool p) ≡ [] = drop_of_length-le (bytes_at pool p) {i = i} (omega (arith, part_length pool p inside)) in
-      rw e
+-- ---- a part, and the 00 behind it where it is ended by one
 
-module _ (out : List ℕ) (at : ℕ) (v i : ℕ) where
-  pub word_more : i < 8 → sets (set out (at + i) (v % 256)) (at + (i + 1)) (little_endian_bytes (8 - (i + 1)) (v / 256)) ≡ sets out (at + i) (little_endian_bytes (8 - i) v)
-  unfolding little_endian_bytes
-  word_more h =
-      let n : 8 - i ≡ suc (8 - (i + 1)) = omega arith in
-      let e : little_endian_bytes (8 - i) v ≡ v % 256 ∷ little_endian_bytes (8 - (i + 1)) (v / 256) = rw n in
-      stored out at i (v % 256) e
+one-ending : (ended : Bool) → ended ≡ true → length (ending ended) ≡ 1
+unfolding ending
+one-ending ended b = rw b
 
-  pub word-whole : 8 ≤ i → sets out (at + i) (little_endian_bytes (8 - i) v) ≡ out
-  unfolding little_endian_bytes
-  word-whole h = let e : 8 - i ≡ 0 = omega arith in rw e
+-- the first bytes are stored, and the others go behind them
+module _ (out bs : List ℕ) (at i : ℕ) where
+  pub copied_more : i < length bs → sets (set out (at + i) (get_or bs i 0)) (at + (i + 1)) (drop (i + 1) bs) ≡ sets out (at + i) (drop i bs)
+  copied_more h = rw (drop-cons bs i 0 h, add-one i, add-suc at i)
 
--- ---- the 00 behind a part, where it is ended by one
+  pub copied : length bs ≤ i → sets out (at + i) (drop i bs) ≡ out
+  copied h = let e : drop i bs ≡ [] = drop_of_length-le bs {i = i} h in rw e
 
-module _ (ended : Bool) where
-  pub one-ending : ended ≡ true → length (ending ended) ≡ 1
+module _ (out : List ℕ) (at : ℕ) (bs : List ℕ) (ended : Bool) {ys : List ℕ} (after : ys ≡ sets out at bs) (room : at + length (bs ++ ending ended) ≤ length out) where
+  pub part_plain : ended ≡ false → ys ≡ sets out at (bs ++ ending ended)
   unfolding ending
-  one-ending b = rw b
+  part_plain b = after ∙ rw (b, append-nil)
 
-  module _ (out : List ℕ) (at : ℕ) where
-    pub no-ending : ended ≡ false → out ≡ sets out at (ending ended)
-    unfolding ending
-    no-ending b = rw b
+  pub part-room : ended ≡ true → at + length bs < length ys
+  part-room b = rw after (omega (arith, length-sets out at bs, length-append bs (ending ended), one-ending ended b))
 
-    pub an-ending : ended ≡ true → set out at 0 ≡ sets out at (ending ended)
-    unfolding ending
-    an-ending b = rw b
+  pub part_ended : ended ≡ true → set ys (at + length bs) 0 ≡ sets out at (bs ++ ending ended)
+  unfolding ending
+  part_ended b = ap (λ l. set l (at + length bs) 0) after ∙ an-ending b ∙ sets-append out at bs (ending ended)
+    where
+      an-ending : ended ≡ true → set (sets out at bs) (at + length bs) 0 ≡ sets (sets out at bs) (at + length bs) (ending ended)
+      an-ending b = rw b
 
-  module _ (pool : List ℕ) (p : Place) (inside : p.start + p.size ≤ length pool) where
-    pub ended-length : {n : ℕ} → n ≡ p.size + length (ending ended) → length (bytes_at pool p ++ ending ended) ≡ n
-    ended-length e = omega (arith, length-append (bytes_at pool p) (ending ended), part_length pool p inside)
-
-    pub ended-stored : (out : List ℕ) {out₁ out₂ : List ℕ} (at : ℕ) → out₁ ≡ sets out at (bytes_at pool p) → out₂ ≡ sets out₁ (at + p.size) (ending ended) → out₂ ≡ sets out at (bytes_at pool p ++ ending ended)
-    ended-stored out at e₁ e₂ =
-        e₂ ∙ ap (λ l. sets l (at + p.size) (ending ended)) e₁ ∙ ap (λ (n : ℕ). sets (sets out at (bytes_at pool p)) (at + n) (ending ended)) (sym (part_length pool p inside)) ∙ sets-append out at (bytes_at pool p) (ending ended)
+-- the pool's part as a slice of it
+pub part-slice : (pool : List ℕ) (p : Place) → take (p.start + p.size - p.start) (drop p.start pool) ≡ bytes_at pool p
+part-slice pool p = ap (λ n. take n (drop p.start pool)) (omega arith)

@@ -1,5 +1,5 @@
 -- Texts: what is kept of a literal, and the two ways to write a text.
-use mathlib.Core.Path.{◌≡◌, refl, sym, ap, subst, ◌∙◌}
+use mathlib.Core.Path.{◌≡◌, refl, sym, ap, ◌∙◌}
 use mathlib.Core.Bool.{Bool, true, false}
 use mathlib.Core.List.{List, [], ◌∷◌, ◌++◌, map, map-append}
 use mathlib.Core.Option.{Option, none, some}
@@ -8,6 +8,7 @@ use native.Mathlib.Omega.{arith}
 use lib.Dec.{eqb}
 use lib.IntN.{pos}
 use lib.ListN.{length, get_or, length-map, get_or-map}
+use Rattle.std.specs.Prelude.{Result, Ok, Err}
 use borrow.Author.Tests.{lt-ltb, le-ltb, eqb-true, eqb-false}
 use Rattle.format.specs.Answer.{Answer, ok, refuse, ◌>>=◌}
 use Rattle.format.specs.Label.{label}
@@ -22,12 +23,11 @@ use Rattle.laws.specs.Facts.{absurd-bool, absurd-ok, ok_same, by_bool, by-lt}
 use Rattle.theory.specs.Lists.{add-here, add-elsewhere}
 use Rattle.write_passes.specs.Plan.{Plan, emit_literal, emit_core, emit_slot, emit_bytes, emit_front, emit_choice, emit_text, emit_body, emit_event}
 use Rattle.write_passes.specs.Laws.{slot-new, slot-none, literal-plain, literal-kept, literal-over}
-use Rattle.write_search.specs.Search.{text_of, texts_of, AreLiterals, KeepsText, KeepAs, number, InWords, last-stands}
+use Rattle.write_search.specs.Search.{text_of, texts_of, AreLiterals, KeepsText, number, last-stands}
 use Rattle.write_search.specs.Parts.{part_length}
 use Rattle.write_search.specs.declared.Found.{Found}
 use Rattle.write_search.specs.declared.Found.TheVariants.{Number, Nothing}
-use Rattle.write_bytes.specs.declared.Put.{Put}
-use Rattle.write_bytes.specs.declared.Put.TheVariants.{To, Full}
+use Rattle.format.specs.declared.refusal.Refusal.{Refusal}
 use Rattle.write_bytes.specs.State.{plan_in, plan_of, Ready, Does, Emits, Puts}
 use Rattle.write_bytes.specs.Does.{along, does-ok, does-done, does-then, does-stop, core-emits}
 use Rattle.write_bytes.specs.Text.{kept, EmitsText}
@@ -96,7 +96,7 @@ module _ (pool : List ℕ) (k : ℕ) (x : Literal) where
         (λ l. rw (kept_more k x s l) (inside-added s.literals (kp refl) h)) (λ l. rw (kept-over k x s l) h)
 
     keep-does : (out : List ℕ) (core : ℕ) (numbered : Bool) {w w' : List ℕ} → (numbered ≡ true → KeepsText pool (texts_of pool (get_or (store_of w).literals k [])) p x) → Ready pool w → Changes w w' (kept numbered k x)
-        → Does pool w w' out (To core) (ok (emit_literal numbered k (bytes_at pool p) (plan_of pool out w core)))
+        → Does pool w w' out (Ok core) (ok (emit_literal numbered k (bytes_at pool p) (plan_of pool out w core)))
     keep-does out core numbered {w} {w'} kp g c =
         let e : plan_of pool out w' core ≡ emit_literal numbered k (bytes_at pool p) (plan_of pool out w core) = ap (plan_in pool out core) c.store ∙ literal-is out core numbered (store_of w) (λ n. ap (bytes_at pool) (kp n).place) in
         along (ap ok (sym e)) (does-ok (record { small = g.small; good = c.good; inside = rw c.store (inside-kept numbered (store_of w) kp g.inside) }) (record { at = c.outside }))
@@ -125,35 +125,35 @@ texts-at pool k ls = get_or-map (λ l. texts_of pool l) ls k []
 -- ---- a literal
 
 module _ (put inline numbered ended : Bool) (k core : ℕ) {pool w out : List ℕ} (x : Place) (g : Ready pool w) (given : x.start + x.size ≤ length pool)
-    {out₁ : List ℕ} {r₁ : Put} (d₁ : Puts put core (label (pos x.size)) out out₁ r₁) where
+    {out₁ : List ℕ} {r₁ : Result ℕ Refusal} (d₁ : Puts put core (label (pos x.size)) out out₁ r₁) where
   abbrev written : ℕ → (ℕ → Held) → Answer Plan
   written modes held = emit_choice put modes held k (bytes_at pool x) none (plan_of pool out w core)
 
   first : Does pool w w out₁ r₁ (emit_core put (label (pos (length (bytes_at pool x)))) (plan_of pool out w core))
   first = rw (part_length pool x given) ((core-emits put w d₁).does pool g)
 
-  pub literal-stop : r₁ ≡ Full → EmitsText inline numbered ended k pool w w out₁ r₁ written
+  pub literal-stop : {n : Refusal} → r₁ ≡ Err n → EmitsText inline numbered ended k pool w w out₁ (Err n) written
   unfolding emit_choice
   literal-stop q = record { does = λ modes held i n t. does-stop _ _ first q }
 
-  module _ {next : ℕ} (q₁ : r₁ ≡ To next) {w₁ out₂ : List ℕ} {r₂ : Put} (d₂ : Emits w w₁ out₁ out₂ next r₂ (emit_bytes put inline k (bytes_at pool x ++ ending ended))) where
+  module _ {next : ℕ} (q₁ : r₁ ≡ Ok next) {w₁ out₂ : List ℕ} {r₂ : Result ℕ Refusal} (d₂ : Emits w w₁ out₁ out₂ next r₂ (emit_bytes put inline k (bytes_at pool x ++ ending ended))) where
     then : Does pool w w₁ out₂ r₂ (emit_bytes put inline k (bytes_at pool x ++ ending ended) (plan_of pool out₁ w next))
     then = d₂.does pool (does-done _ first q₁).ready
 
-    pub literal-full : r₂ ≡ Full → EmitsText inline numbered ended k pool w w₁ out₂ r₂ written
+    pub literal-full : {n : Refusal} → r₂ ≡ Err n → EmitsText inline numbered ended k pool w w₁ out₂ (Err n) written
     unfolding emit_choice
     literal-full q = record { does = λ modes held i n t. does-then _ _ first q₁ (rw (i, t) (does-stop _ _ then q)) }
 
-    pub literal-good : {end : ℕ} → r₂ ≡ To end → Good w₁
+    pub literal-good : {end : ℕ} → r₂ ≡ Ok end → Good w₁
     literal-good q = (does-done _ then q).ready.good
 
-    module _ {end : ℕ} {w₂ : List ℕ} {y : Literal} (q : r₂ ≡ To end) (kp : numbered ≡ true → KeepsText pool (texts_of pool (get_or (store_of w).literals k [])) x y) (c : Changes w₁ w₂ (kept numbered k y)) where
+    module _ {end : ℕ} {w₂ : List ℕ} {y : Literal} (q : r₂ ≡ Ok end) (kp : numbered ≡ true → KeepsText pool (texts_of pool (get_or (store_of w).literals k [])) x y) (c : Changes w₁ w₂ (kept numbered k y)) where
       same-texts : texts_of pool (get_or (store_of w).literals k []) ≡ texts_of pool (get_or (store_of w₁).literals k [])
       same-texts =
           let e = bytes-literals put k (bytes_at pool x ++ ending ended) (plan_of pool out₁ w next) inline (does-done _ then q).is in
           sym (texts-at pool k (store_of w).literals) ∙ ap (λ (ls : List (List Text)). get_or ls k []) (sym e) ∙ texts-at pool k (store_of w₁).literals
 
-      pub literal-done : EmitsText inline numbered ended k pool w w₂ out₂ (To end) written
+      pub literal-done : EmitsText inline numbered ended k pool w w₂ out₂ (Ok end) written
       unfolding emit_choice
       literal-done = record {
         does = λ modes held i n t.
@@ -174,12 +174,6 @@ module _ (numbered : Bool) (v : Text) (l : List Text) where
 pub not-numbered : {numbered : Bool} {P : Type 0} → numbered ≡ false → numbered ≡ true → P
 not-numbered {numbered} b n = absurd-bool (sym b ∙ n)
 
-pub found-small : {f f' : Found} → InWords f → f ≡ f' → InWords f'
-found-small h q = subst (λ (f : Found). InWords f) q h
-
-pub found-kept : (pool : List ℕ) (ts : List Text) (p : Place) {f f' : Found} → KeepAs pool ts p f → f ≡ f' → KeepAs pool ts p f'
-found-kept pool ts p h q = subst (λ (f : Found). KeepAs pool ts p f) q h
-
 module _ (put inline numbered ended : Bool) (k core : ℕ) (pool w out : List ℕ) (x : Place) (f : Found) (c : number f ≡ choose numbered (bytes_at pool x) (texts_of pool (get_or (store_of w).literals k []))) where
   abbrev row : ℕ → (ℕ → Held) → Answer Plan
   row modes held = emit_event put modes held (record { front = none; body = text k (bytes_at pool x) }) (plan_of pool out w core)
@@ -188,9 +182,9 @@ module _ (put inline numbered ended : Bool) (k core : ℕ) (pool w out : List �
   unfolding emit_event emit_front emit_body emit_text ◌>>=◌
   row_by modes held n e = rw (n, texts-at pool k (store_of w).literals, ← c, e)
 
-  pub row_out : {w' out' : List ℕ} {r : Put} {first second : ℕ} → f ≡ Nothing first second → EmitsText inline numbered ended k pool w w' out' r (λ modes held. emit_choice put modes held k (bytes_at pool x) none (plan_of pool out w core)) → EmitsText inline numbered ended k pool w w' out' r row
+  pub row_out : {w' out' : List ℕ} {r : Result ℕ Refusal} {first second : ℕ} → f ≡ Nothing first second → EmitsText inline numbered ended k pool w w' out' r (λ modes held. emit_choice put modes held k (bytes_at pool x) none (plan_of pool out w core)) → EmitsText inline numbered ended k pool w w' out' r row
   row_out q d = record { does = λ modes held i n t. along (row_by modes held n (ap number q)) (d.does modes held i n t) }
 
-  pub row_named : {j : ℕ} {out' : List ℕ} {r : Put} → f ≡ Number j → Ready pool w → Puts put core (label (number_label j)) out out' r → EmitsText inline numbered ended k pool w w out' r row
+  pub row_named : {j : ℕ} {out' : List ℕ} {r : Result ℕ Refusal} → f ≡ Number j → Ready pool w → Puts put core (label (number_label j)) out out' r → EmitsText inline numbered ended k pool w w out' r row
   unfolding emit_choice
   row_named q g d = record { does = λ modes held i n t. along (row_by modes held n (ap number q)) ((core-emits put w d).does pool g) }

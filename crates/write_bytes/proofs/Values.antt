@@ -8,6 +8,8 @@ use native.Mathlib.Nat.{zero-add}
 use native.Mathlib.Omega.{arith}
 use lib.ListN.{length}
 use Rattle.format.specs.Answer.{Answer, ok, refuse, ◌>>=◌, ◌>>◌, need_at}
+use Rattle.std.specs.Prelude.{Result, Ok, Err}
+use Rattle.format.specs.Refusal.{answered}
 use Rattle.format.specs.Read.{Reading}
 use Rattle.store.specs.Store.{lookup, put}
 use Rattle.write_literals.specs.Store.{Store, opened, advanced}
@@ -16,9 +18,8 @@ use Rattle.store.specs.Laws.{change-put}
 use Rattle.laws.specs.Facts.{ok_same, need-ok}
 use Rattle.write_passes.specs.Plan.{Plan, core_to, slots_to, put_bytes, emit_core, emit_slot, emit_bytes}
 use Rattle.write_passes.specs.Slots.{under, most-lookup, lookup-under, change-under}
-use Rattle.write_bytes.specs.declared.Put.{Put}
-use Rattle.write_bytes.specs.declared.Put.TheVariants.{To, Full}
-use Rattle.write_bytes.specs.State.{plan_in, plan_of, slots_of, Ready, Within, answer_of, Emits, Puts}
+use Rattle.format.specs.declared.refusal.Refusal.{Refusal}
+use Rattle.write_bytes.specs.State.{plan_in, plan_of, slots_of, Ready, Within, Emits, Puts}
 use Rattle.write_bytes.specs.Does.{along, does-ok, does-refuse, puts-done, puts-refused}
 use Rattle.write_bytes.specs.Value.{slot_place, place_of, slot_to, moved_to, HasPlace}
 
@@ -137,18 +138,18 @@ literals-stay false k n s = go (lookup k s.slots)
     go (some p) = refl
     go none = refl
 
-place-done : {r : Put} {at : ℕ} (a : Answer ℕ) → answer_of r ≡ a → r ≡ To at → a ≡ ok at
-place-done a q e = sym q ∙ ap answer_of e
+place-done : {r : Result ℕ Refusal} {at : ℕ} (a : Answer ℕ) → answered r ≡ a → r ≡ Ok at → a ≡ ok at
+place-done a q e = sym q ∙ ap answered e
 
 pub ready-kept : {pool w w' : List ℕ} → Ready pool w → Good w' → (store_of w').literals ≡ (store_of w).literals → Ready pool w'
 ready-kept g h e = record { small = g.small; good = h; inside = rw e g.inside }
 
-module _ (put inline : Bool) (k core : ℕ) {w : List ℕ} {r₁ : Put} (q₁ : answer_of r₁ ≡ place_of put inline k core (slots_of w)) where
-  pub place-found : {at : ℕ} → r₁ ≡ To at → HasPlace put inline k core w
+module _ (put inline : Bool) (k core : ℕ) {w : List ℕ} {r₁ : Result ℕ Refusal} (q₁ : answered r₁ ≡ place_of put inline k core (slots_of w)) where
+  pub place-found : {at : ℕ} → r₁ ≡ Ok at → HasPlace put inline k core w
   place-found {at} q = record { at = at; found = place-done _ q₁ q }
 
   -- the place goes no further than the core and the slots
-  pub place-within : {b at : ℕ} → Within b core w → r₁ ≡ To at → at ≤ b
+  pub place-within : {b at : ℕ} → Within b core w → r₁ ≡ Ok at → at ≤ b
   unfolding place_of slot_place
   place-within {b} {at} h q = go inline (place-done _ q₁ q)
     where
@@ -162,15 +163,15 @@ module _ (put inline : Bool) (k core : ℕ) {w : List ℕ} {r₁ : Put} (q₁ : 
 
   module _ (bs : List ℕ) {out : List ℕ} where
     -- the key has no block
-    pub value-nowhere : {out' : List ℕ} → r₁ ≡ Full → Emits w w out out' core r₁ (emit_bytes put inline k bs)
-    value-nowhere q = record { does = λ pool g. along (bytes-nowhere put inline k bs (plan_of pool out w core) (sym q₁ ∙ ap answer_of q)) (does-refuse q) }
+    pub value-nowhere : {out' : List ℕ} → {n : Refusal} → r₁ ≡ Err n → Emits w w out out' core (Err n) (emit_bytes put inline k bs)
+    value-nowhere {n = n} q = record { does = λ pool g. along (bytes-nowhere put inline k bs (plan_of pool out w core) (sym q₁ ∙ ap answered q)) (does-refuse n) }
 
-    module _ {at : ℕ} (q₂ : r₁ ≡ To at) {out' : List ℕ} {r₂ : Put} (d : Puts put at bs out out' r₂) where
+    module _ {at : ℕ} (q₂ : r₁ ≡ Ok at) {out' : List ℕ} {r₂ : Result ℕ Refusal} (d : Puts put at bs out out' r₂) where
       -- the output is full
-      pub value-full : r₂ ≡ Full → Emits w w out out' core r₂ (emit_bytes put inline k bs)
-      value-full q = record { does = λ pool g. along (bytes-full put inline k bs (plan_of pool out w core) (place-done _ q₁ q₂) (puts-refused d q)) (does-refuse q) }
+      pub value-full : {n : Refusal} → r₂ ≡ Err n → Emits w w out out' core (Err n) (emit_bytes put inline k bs)
+      value-full {n} q = record { does = λ pool g. along (bytes-full put inline k bs (plan_of pool out w core) (place-done _ q₁ q₂) (puts-refused d q)) (does-refuse n) }
 
-      pub value-done : {end : ℕ} → r₂ ≡ To end → {core' : ℕ} {w' : List ℕ} → core' ≡ cond inline end core → Changes w w' (moved_to inline k end) → Emits w w' out out' core (To core') (emit_bytes put inline k bs)
+      pub value-done : {end : ℕ} → r₂ ≡ Ok end → {core' : ℕ} {w' : List ℕ} → core' ≡ cond inline end core → Changes w w' (moved_to inline k end) → Emits w w' out out' core (Ok core') (emit_bytes put inline k bs)
       value-done {end} q {core'} {w'} f c =
           let x = puts-done d q in
           record {

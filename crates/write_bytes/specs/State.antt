@@ -1,7 +1,8 @@
 -- The writer's state as the code keeps it, and what a step has done.
-use Rattle.std.specs.Prelude.{◌≡◌, Bool, List, map, ℕ, ◌+◌, ◌≤◌, length}
+use Rattle.std.specs.Prelude.{◌≡◌, Bool, Result, List, map, ℕ, ◌+◌, ◌≤◌, length}
 use Rattle.format.specs.Answer.{Answer, ok, refuse}
 use Rattle.format.specs.Modes.{inline_everything}
+use Rattle.format.specs.Refusal.{answered}
 use Rattle.format.specs.Table.{Held}
 use Rattle.format.specs.Write.{Event}
 use Rattle.write_literals.specs.Store.{Store}
@@ -10,8 +11,7 @@ use Rattle.store.specs.Same.{Same}
 use Rattle.write_passes.specs.Plan.{Plan, put_bytes, emit_event}
 use Rattle.write_passes.specs.Slots.{under, most}
 use Rattle.write_search.specs.Search.{texts_of, AreLiterals}
-use Rattle.write_bytes.specs.declared.Put.{Put}
-use Rattle.write_bytes.specs.declared.Put.TheVariants.{To, Full}
+use Rattle.format.specs.declared.refusal.Refusal.{Refusal}
 
 -- A slot's `at` is where the key's next byte goes, and so is `core` for the core.
 abbrev pub plan_in : List ℕ → List ℕ → ℕ → Store → Plan
@@ -46,11 +46,6 @@ pub record HoldsPlan (pool w w' out : List ℕ) (p : Plan) : Type 0 where
   pub ready : Ready pool w'
   pub same : Same w w'
 
--- What the code's answer says: how far the bytes go, or «43: message over the lent output or 65,536 bytes».
-abbrev pub answer_of : Put → Answer ℕ
-answer_of (To n) = ok n
-answer_of Full = refuse 43 0
-
 -- how far the outcome of a definition goes
 abbrev pub reach : {A : Type 0} → (A → ℕ) → Answer A → Answer ℕ
 reach f (ok a) = ok (f a)
@@ -61,20 +56,20 @@ abbrev pub IfDone : {A : Type 0} → (A → Type 0) → Answer A → Type 0
 IfDone P (ok a) = P a
 IfDone P (refuse e i) = Unit {0}
 
--- A step that began with the work w, and ended with the work w' and this output.
-pub record Does (pool w w' out : List ℕ) (r : Put) (a : Answer Plan) : Type 0 where
-  pub answer : answer_of r ≡ reach (λ p. p.core) a
+-- A step that began with the work w, and ended with the work w' and this output. The code answers how far the bytes go, or «43: message over the lent output or 65,536 bytes».
+pub record Does (pool w w' out : List ℕ) (r : Result ℕ Refusal) (a : Answer Plan) : Type 0 where
+  pub answer : answered r ≡ reach (λ p. p.core) a
   pub left : IfDone (HoldsPlan pool w w' out) a
 
 -- The same of a step f that has to do with no literal, so that the pool may be any.
-pub record Emits (w w' out out' : List ℕ) (core : ℕ) (r : Put) (f : Plan → Answer Plan) : Type 0 where
+pub record Emits (w w' out out' : List ℕ) (core : ℕ) (r : Result ℕ Refusal) (f : Plan → Answer Plan) : Type 0 where
   pub does : (pool : List ℕ) → Ready pool w → Does pool w w' out' r (f (plan_of pool out w core))
 
 -- of a whole row, in any modes that are InlineEverything or not
-pub record EmitsEvent (put inline : Bool) (w w' out out' : List ℕ) (core : ℕ) (r : Put) (e : Event) : Type 0 where
+pub record EmitsEvent (put inline : Bool) (w w' out out' : List ℕ) (core : ℕ) (r : Result ℕ Refusal) (e : Event) : Type 0 where
   pub emits : (modes : ℕ) (held : ℕ → Held) → inline_everything modes ≡ inline → Emits w w' out out' core r (emit_event put modes held e)
 
 -- And of bytes alone, put from `at` on.
-pub record Puts (put : Bool) (at : ℕ) (bs out out' : List ℕ) (r : Put) : Type 0 where
-  pub answer : answer_of r ≡ reach (λ o. at + length bs) (put_bytes put at bs out)
+pub record Puts (put : Bool) (at : ℕ) (bs out out' : List ℕ) (r : Result ℕ Refusal) : Type 0 where
+  pub answer : answered r ≡ reach (λ o. at + length bs) (put_bytes put at bs out)
   pub left : IfDone (λ o. out' ≡ o) (put_bytes put at bs out)

@@ -1,13 +1,12 @@
 -- A value in three steps: where its first byte goes, its bytes, and the core or the key's slot moved on behind them.
-use Rattle.std.specs.Prelude.{◌≡◌, Bool, true, false, not, List, ℕ, ◌+◌, ◌≤◌}
+use Rattle.std.specs.Prelude.{◌≡◌, Bool, Result, Ok, Err, true, false, not, List, ℕ, ◌+◌, ◌≤◌}
 use Rattle.std.proofs.Math.Option.{Option, none, some}
 use Rattle.format.specs.Answer.{Answer, ok, ◌>>◌, need}
 use Rattle.format.specs.Read.{Reading}
 use Rattle.format.specs.Write.{unlabelled, nothing}
 use Rattle.store.specs.Store.{lookup}
 use Rattle.write_literals.specs.Store.{Store, opened, advanced}
-use Rattle.write_bytes.specs.declared.Put.{Put}
-use Rattle.write_bytes.specs.declared.Put.TheVariants.{To, Full}
+use Rattle.format.specs.declared.refusal.Refusal.{Refusal}
 use Rattle.write_passes.specs.Plan.{emit_front}
 use Rattle.write_bytes.specs.State.{slots_of, Emits}
 
@@ -37,10 +36,10 @@ moved_to true k at s = s
 moved_to false k at s = slot_to k at (lookup k s.slots) s
 
 -- The label in front of an unlabelled value, where one is wanted. It has to do with the output alone, so that the work may be any.
-pub record Fronts (put labelled : Bool) (out out' : List ℕ) (core : ℕ) (r : Put) : Type 0 where
+pub record Fronts (put labelled : Bool) (out out' : List ℕ) (core : ℕ) (r : Result ℕ Refusal) : Type 0 where
   pub emits : (w : List ℕ) → Emits w w out out' core r (emit_front put (unlabelled labelled nothing).front)
 
 -- a label has ten bytes at most
-abbrev pub Near : ℕ → Put → Type 0
-Near core (To c) = c ≤ core + 10
-Near core Full = Unit {0}
+abbrev pub Near : ℕ → Result ℕ Refusal → Type 0
+Near core (Ok c) = c ≤ core + 10
+Near core (Err e) = Unit {0}

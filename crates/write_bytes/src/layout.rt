@@ -25,11 +25,9 @@ fn blocks_end(work: &[u32]) -> usize
 {
     let n = store::slot_count(work);
     let mut at = 1;
-    let mut i = 0;
-    while i < n {
+    for i in 0..n {
         let slot = store::slot_at(work, i);
         at += framed(slot.at);
-        i += 1;
     }
     at
 }
@@ -53,14 +51,12 @@ fn lay_blocks(out: &mut [u8], work: &mut [u32]) -> usize
 {
     let n = store::slot_count(work);
     let mut at = 1;
-    let mut i = 0;
-    while i < n {
+    for i in 0..n {
         let slot = store::slot_at(work, i);
         let size = slot.at;
         let start = label::put_label(out, at, bytes::count_label(size));
         store::advance(work, slot.key, start);
         at = start + size;
-        i += 1;
     }
     at
 }
@@ -73,7 +69,7 @@ pub fn lay_out(out: &mut [u8], work: &mut [u32], modes: u64, core: usize) -> usi
     out[0] = (2 * modes) as u8;
     let at = lay_blocks(out, work);
     store::forget(work);
-    if modes % 2 == 1 {
+    if modes::inline_everything(modes) {
         return at;
     }
     label::put_label(out, at, bytes::count_label(core))

@@ -1,6 +1,7 @@
 // A text: the number of an equal literal of its key, or a literal.
 ghost use Rattle.std.specs.Prelude.{◌≡◌, true, [], ◌+◌, ◌<◌, ◌≤◌, ◌^◌, length, get_or};
 ghost use Rattle.std.proofs.Math.Option.{none};
+ghost use Rattle.format.specs.Part.{place_of};
 ghost use Rattle.format.specs.Row.{bytes_at};
 ghost use Rattle.format.specs.Read.{number_label};
 ghost use Rattle.format.specs.Write.{text, choose as choose_of};
@@ -10,7 +11,9 @@ ghost use Rattle.write_search.specs.Search.{number as number_in, texts_of, AreLi
 ghost use Rattle.write_bytes.specs.State.{plan_of, Ready, Within};
 ghost use Rattle.write_bytes.specs.Text.{kept, EmitsText};
 
-use super::{Put, bytes, value};
+use super::encoded::Part;
+use super::{Pass, bytes, value};
+use format::{Place, Refusal};
 use write_search::Found;
 
 // The label of a key's literal j, from -4 down.
@@ -22,16 +25,19 @@ fn number_label(j: usize) -> i64
 }
 
 // The literal to name in place of the text. Without deduplication there is none.
-fn choose(pool: &[u8], work: &[u32], numbered: bool, key: usize, start: usize, size: usize) -> Found
-    requires { (Good work.now) × (AreLiterals pool.now (store_of work.now).literals) × (key < 32) × (start + size ≤ length pool.now) × (length pool.now ≤ 65536) }
-    ensures result_value { number_in result ≡ choose_of numbered (bytes_at pool.now (record { start = start; size = size })) (texts_of pool.now (get_or (store_of work.now).literals key [])) }
+fn choose(pool: &[u8], work: &[u32], numbered: bool, key: usize, place: Place) -> Found
+    requires { (Good work.now) × (AreLiterals pool.now (store_of work.now).literals) × (key < 32) × (place.start + place.size ≤ length pool.now) × (length pool.now ≤ 65536) }
+    ensures result_value { number_in result ≡ choose_of numbered (bytes_at pool.now (place_of place)) (texts_of pool.now (get_or (store_of work.now).literals key [])) }
     ensures in_words { InWords result }
-    ensures keep_as { numbered ≡ true → KeepAs pool.now (texts_of pool.now (get_or (store_of work.now).literals key [])) (record { start = start; size = size }) result }
+    ensures keep_as { numbered ≡ true → KeepAs pool.now (texts_of pool.now (get_or (store_of work.now).literals key [])) (place_of place) result }
 {
     if !numbered {
-        return Found::Nothing(start, size);
+        return Found::Nothing {
+            first: place.start,
+            second: place.size,
+        };
     }
-    write_search::choose(pool, work, key, start, size)
+    write_search::choose(pool, work, key, place.start, place.size)
 }
 
 // Keeps a literal that takes a number, by two words; after 4,096 of them it notes that there was one too many.
@@ -50,61 +56,52 @@ fn keep(work: &mut [u32], numbered: bool, key: usize, first: usize, second: usiz
 }
 
 // Writes the text out: its length in the core, its bytes, and where it is `ended` a 00, which its length does not count. If
-// it takes a number, it is kept by the words `first` and `second`.
+// it takes a number, it is kept by the words `first` and `second`: what they are is write_search's, so they stay two words.
 fn literal(
     pool: &[u8],
     out: &mut [u8],
     work: &mut [u32],
-    put: bool,
-    inline: bool,
+    how: Pass,
     numbered: bool,
     ended: bool,
     core: usize,
     key: usize,
-    start: usize,
-    size: usize,
+    place: Place,
     first: usize,
     second: usize,
-) -> Put
-    requires { (Ready pool.now work.old) × (Within (2 ^ 30) core work.old) × (key < 32) × (start + size ≤ length pool.now) × (first < 2 ^ 32) × (second < 2 ^ 32)
-        × (numbered ≡ true → KeepsText pool.now (texts_of pool.now (get_or (store_of work.old).literals key [])) (record { start = start; size = size }) (record { first = first; second = second })) }
-    ensures { EmitsText inline numbered ended key pool.now work.old work.new out.new result
-        (λ modes held. emit_choice put modes held key (bytes_at pool.now (record { start = start; size = size })) none (plan_of pool.now out.old work.old core)) }
+) -> Result<usize, Refusal>
+    requires { (Ready pool.now work.old) × (Within (2 ^ 30) core work.old) × (key < 32) × (place.start + place.size ≤ length pool.now) × (first < 2 ^ 32) × (second < 2 ^ 32)
+        × (numbered ≡ true → KeepsText pool.now (texts_of pool.now (get_or (store_of work.old).literals key [])) (place_of place) (record { first = first; second = second })) }
+    ensures { EmitsText how.inline numbered ended key pool.now work.old work.new out.new result
+        (λ modes held. emit_choice how.put modes held key (bytes_at pool.now (place_of place)) none (plan_of pool.now out.old work.old core)) }
 {
-    let front = bytes::put_label(out, put, core, bytes::count_label(size));
-    let Put::To(next) = front else {
-        return front;
-    };
-    let step = value::part(pool, out, work, put, inline, next, key, start, size, ended);
-    let Put::To(end) = step else {
-        return step;
-    };
+    let next = bytes::put_label(out, how.put, core, bytes::count_label(place.size))?;
+    let bytes = &pool[place.start..place.start + place.size];
+    let end = value::emit(out, work, how, next, key, Part { bytes, ended })?;
     keep(work, numbered, key, first, second);
-    Put::To(end)
+    Ok(end)
 }
 
-// The text of `size` bytes of the pool from `start`: does it take a number, and is it `ended` by a 00?
+// The text at a place of the pool: does it take a number, and is it `ended` by a 00?
 pub fn emit_text(
     pool: &[u8],
     out: &mut [u8],
     work: &mut [u32],
-    put: bool,
-    inline: bool,
+    how: Pass,
     numbered: bool,
     ended: bool,
     core: usize,
     key: usize,
-    start: usize,
-    size: usize,
-) -> Put
-    requires { (Ready pool.now work.old) × (Within (2 ^ 30) core work.old) × (key < 32) × (start + size ≤ length pool.now) }
-    ensures { EmitsText inline numbered ended key pool.now work.old work.new out.new result
-        (λ modes held. emit_event put modes held (record { front = none; body = text key (bytes_at pool.now (record { start = start; size = size })) }) (plan_of pool.now out.old work.old core)) }
+    place: Place,
+) -> Result<usize, Refusal>
+    requires { (Ready pool.now work.old) × (Within (2 ^ 30) core work.old) × (key < 32) × (place.start + place.size ≤ length pool.now) }
+    ensures { EmitsText how.inline numbered ended key pool.now work.old work.new out.new result
+        (λ modes held. emit_event how.put modes held (record { front = none; body = text key (bytes_at pool.now (place_of place)) }) (plan_of pool.now out.old work.old core)) }
 {
-    match choose(pool, work, numbered, key, start, size) {
-        Found::Number(j) => bytes::put_label(out, put, core, number_label(j)),
-        Found::Nothing(first, second) => literal(
-            pool, out, work, put, inline, numbered, ended, core, key, start, size, first, second,
+    match choose(pool, work, numbered, key, place) {
+        Found::Number(j) => bytes::put_label(out, how.put, core, number_label(j)),
+        Found::Nothing { first, second } => literal(
+            pool, out, work, how, numbered, ended, core, key, place, first, second,
         ),
     }
 }

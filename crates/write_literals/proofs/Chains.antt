@@ -4,7 +4,7 @@ use mathlib.Core.List.{List}
 use Prim.Native.Nat.{ℕ, zero, suc, ◌+◌, ◌-◌, ◌*◌, ◌/◌, ◌%◌, ◌<◌, ◌≤◌}
 use native.Mathlib.Omega.{arith}
 use Rattle.store.specs.Words.{word, all_of}
-use Rattle.write_literals.specs.Words.{bucket, bucket_of, link_at, lane, head_of, link_of, On, First, GoodLiterals, Tail}
+use Rattle.write_literals.specs.Words.{bucket, bucket_of, link_at, lane, head_of, link_of, On, First, GoodLiterals}
 use Rattle.write_literals.specs.Laws.{head-none, head-on, head-off, head-beyond}
 use Rattle.write_literals.proofs.Places.{link-first, link-next, leads-first, leads-next}
 
@@ -65,9 +65,6 @@ module _ {w : List ℕ} {b at next : ℕ} (c : GoodLiterals w) (hb : b < 4096) (
 
   pub going-most : next ≤ 4096
   going-most = omega (arith, going-first.most, c.most)
-
-  pub going_end : next ≡ 0 → Tail w b at
-  going_end e = record { i = g.i; is = g.is; inside = g.inside; on = g.on; end = sym g.leads ∙ e }
 
   pub going_more : (next ≡ 0 → ⊥) → {x next' : ℕ} → x ≡ word w (4096 - 1 + 3 * next) → next' ≡ x % 8192 → Going w b (4096 - 1 + 3 * next) next'
   going_more d e f = record {

@@ -1,6 +1,6 @@
 -- The part of a word that leads on, and what stays beside it.
 use mathlib.Core.Path.{◌≡◌, sym, ap, ◌∙◌}
-use Prim.Native.Nat.{ℕ, ◌+◌, ◌-◌, ◌*◌, ◌/◌, ◌%◌, ◌<◌, ◌≤◌, ◌^◌}
+use Prim.Native.Nat.{ℕ, ◌+◌, ◌-◌, ◌*◌, ◌/◌, ◌%◌, ◌<◌, ◌^◌}
 use native.Mathlib.Omega.{arith}
 use Rattle.laws.specs.Facts.{by-eq}
 use Rattle.write_literals.specs.Words.{lane, relinked}
@@ -64,9 +64,3 @@ module _ (side x v : ℕ) (hs : side < 2) (hv : v < 8192) where
 
 pub above_same : (x v : ℕ) → v < 8192 → relinked 0 x v / 8192 ≡ x / 8192
 above_same x v h = ap (λ (n : ℕ). n / 8192) (relinked-low x v) ∙ low-above x v h
-
-pub lane-part : (side x : ℕ) → side < 2 → lane side x * (1 + 65535 * side) ≤ x
-lane-part side x h = side-or side h (λ e. rw e (omega arith)) (λ e. rw e (omega arith))
-
-pub unit-most : (side v : ℕ) → side < 2 → v < 8192 → v * (1 + 65535 * side) ≤ 536870912
-unit-most side v h l = side-or side h (λ e. rw e (omega arith)) (λ e. rw e (omega arith))

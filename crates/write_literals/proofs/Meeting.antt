@@ -101,7 +101,7 @@ module _ (w : List ℕ) (good : Good w) (key j high wanted : ℕ) where
       sought-not f t = f (second_at ∙ t.whole) (ap (λ (a : ℕ). a / 131072) first-at ∙ t.upper) (ap (λ (a : ℕ). a / 8192 / 4096) link_at ∙ t.owned) (rw link_at t.from)
 
       pub meets-found : ((a : ℕ) → word w a < 2 ^ 32) → key < 32 → second ≡ wanted → first / 131072 ≡ high → link / 8192 / 4096 ≡ key → j ≤ link / 8192 % 4096
-          → Meets (get_or (store_of w).literals key []) j high wanted (link / 8192 % 4096) first
+          → (link / 8192 % 4096 < length (get_or (store_of w).literals key [])) × Meets (get_or (store_of w).literals key []) j high wanted (link / 8192 % 4096) first
       meets-found bits hk s₁ s₂ s₃ s₄ =
           let m = s.most in
           let k : key_at w here ≡ key = ap (λ (a : ℕ). a / 8192 / 4096) (sym link_at) ∙ s₃ in
@@ -110,14 +110,17 @@ module _ (w : List ℕ) (good : Good w) (key j high wanted : ℕ) where
           let p : literal_at w here ≡ record { first = first; second = wanted } = literal-eq (sym first-at) (sym second_at ∙ s₁) in
           let y : nth (key_literals w key (all_of w)) (link / 8192 % 4096) ≡ some (record { first = first; second = wanted }) =
           rw n (rw k at (key-literals-nth w here (all_of w) (omega arith))) ∙ ap some p in
-          rw (literals-at w key hk)
-          record {
-            least = s₄;
-            most = let b = nth-below (key_literals w key (all_of w)) (link / 8192 % 4096) y in omega arith;
-            passed = λ i x h l e q u. earlier n i x h l (key-literals-from w key (all_of w) i x e) q u;
-            small = λ i x e. small_one i x bits (key-literals-from w key (all_of w) i x e);
-            here = λ h. (y, s₂);
-          }
+          let b = nth-below (key_literals w key (all_of w)) (link / 8192 % 4096) y in
+          rw (literals-at w key hk) (
+            b,
+            record {
+              least = s₄;
+              most = omega arith;
+              passed = λ i x h l e q u. earlier n i x h l (key-literals-from w key (all_of w) i x e) q u;
+              small = λ i x e. small_one i x bits (key-literals-from w key (all_of w) i x e);
+              here = λ h. (y, s₂);
+            },
+          )
         where
           small_one : (i : ℕ) (x : Literal) → ((a : ℕ) → word w a < 2 ^ 32) → From w key (all_of w) i x → x.second < 2 ^ 32
           small_one i x bits f = rw (ap (λ (p : Literal). p.second) f.is) at (bits (4096 + 3 * f.g + 1))
@@ -134,13 +137,13 @@ module _ (w : List ℕ) (good : Good w) (key j high wanted : ℕ) where
               })
 
   -- the chain has ended
-  module _ (hk : key < 32) {n : ℕ} (en : n ≡ length (get_or (store_of w).literals key [])) (hj : j ≤ length (get_or (store_of w).literals key [])) (bits : (a : ℕ) → word w a < 2 ^ 32) where
+  module _ (hk : key < 32) (hj : j ≤ length (get_or (store_of w).literals key [])) (bits : (a : ℕ) → word w a < 2 ^ 32) where
     small_any : (i : ℕ) (x : Literal) → nth (get_or (store_of w).literals key []) i ≡ some x → x.second < 2 ^ 32
     small_any i x e =
         let f = key-literals-from w key (all_of w) i x (rw (literals-at w key hk) at e) in
         rw (ap (λ (p : Literal). p.second) f.is) at (bits (4096 + 3 * f.g + 1))
 
-    pub meets-none : ((g : ℕ) → g < all_of w → Sought w key j high wanted g → ⊥) → Meets (get_or (store_of w).literals key []) j high wanted n 0
+    pub meets-none : ((g : ℕ) → g < all_of w → Sought w key j high wanted g → ⊥) → Meets (get_or (store_of w).literals key []) j high wanted (length (get_or (store_of w).literals key [])) 0
     meets-none s = record {
       least = omega arith;
       most = omega arith;

@@ -3,20 +3,17 @@
 // What each word means stands in specs/Words.antt.
 #![tactic(auto)]
 
-ghost use Rattle.std.specs.Prelude.{◌≡◌, true, false, [], ◌+◌, ◌*◌, ◌%◌, ◌/◌, ◌<◌, ◌≤◌, ◌^◌, length, get_or};
+ghost use Rattle.std.specs.Prelude.{◌≡◌, true, false, [], ◌+◌, ◌*◌, ◌%◌, ◌/◌, ◌<◌, ◌≤◌, ◌^◌, length, get_or, IfSome};
 ghost use Rattle.format.specs.Read.{total as total_of};
 ghost use Rattle.store.specs.Words.{all_of};
 ghost use Rattle.write_literals.specs.Store.{added, overfull};
-ghost use Rattle.write_literals.specs.Words.{store_of, Good, Changes, bucket as bucket_of, head_of, link_of, relinked as relinked_of, Meets, Tail, Written};
+ghost use Rattle.write_literals.specs.Meeting.{MeetsIn};
+ghost use Rattle.write_literals.specs.Words.{store_of, Good, Changes, bucket as bucket_of, head_of, link_of, relinked as relinked_of, Tail, Written};
+
+use store::{COUNT, TOTAL};
 
 // 0; or 1, if there was a literal too many.
-const OVER: usize = 1155;
-
-// How many literals there are, all keys together.
-const TOTAL: usize = 1156;
-
-// How many literals each key has.
-const COUNT: usize = 1184;
+const OVER: usize = store::NUMBERS;
 
 // The heads of the chains, two in a word.
 const HEAD: usize = 2048;
@@ -25,7 +22,7 @@ const HEAD: usize = 2048;
 const LITERAL: usize = 4096;
 
 // A literal's two words have its place in their bits below this one.
-const SPAN: usize = 131072;
+pub const SPAN: usize = 131072;
 
 // A link has the next literal in its bits below this one.
 const NEXT: usize = 8192;
@@ -40,12 +37,6 @@ pub struct Met {
     pub first: usize,
 }
 
-fn wide(x: u32) -> usize
-    ensures { (result ≡ x) × (result < 2 ^ 32) }
-{
-    x as usize
-}
-
 fn bucket(key: usize, second: usize) -> usize
     requires { (key < 2 ^ 32) × (second < 2 ^ 32) }
     ensures { (result ≡ bucket_of key second) × (result < 4096) }
@@ -53,12 +44,14 @@ fn bucket(key: usize, second: usize) -> usize
     (second / SPAN + 977 * (second % SPAN) + 131 * key) % 4096
 }
 
-// The literal that the head of a bucket leads to, if there is one. It may be of another bucket: then this one has none.
+// The literal that the head of a bucket leads to, or 0. It may be of another bucket: then this one has none.
+// 0 is what the lent work holds for no literal. With an `Option` in its place, in the chain's loops too, the writer took 3 in 100
+// more instructions for texts and 5 for records of a truth.
 fn head(work: &[u32], b: usize) -> usize
     requires { (16384 ≤ length work.now) × (b < 4096) }
     ensures { (result ≤ all_of work.now) × (link_of work.now b 0 ≡ head_of work.now b result) }
 {
-    let at = (wide(work[HEAD + b / 2]) >> (b % 2 * 16)) % NEXT;
+    let at = (work[HEAD + b / 2] as usize >> (b % 2 * 16)) % NEXT;
     if store::total(work) < at {
         return 0;
     }
@@ -80,36 +73,34 @@ fn sought(
     (second == wanted) & (first / SPAN == high) & (owner / MOST == key) & (j <= owner % MOST)
 }
 
-// The first literal of a key from j on that has the wanted second word and this upper part of its first; or how many there are, where none has.
-pub fn meet(work: &[u32], key: usize, j: usize, high: usize, wanted: usize) -> Met
+// The first literal of a key from j on that has the wanted second word and this upper part of its first, if one has.
+pub fn meet(work: &[u32], key: usize, j: usize, high: usize, wanted: usize) -> Option<Met>
     requires { (Good work.now) × (key < 32) × (j ≤ length (get_or (store_of work.now).literals key [])) × (wanted < 2 ^ 32) }
-    ensures meets { Meets (get_or (store_of work.now).literals key []) j high wanted result.number result.first }
-    ensures number_bound { (result.number ≤ 4096) × (result.first < 2 ^ 32) }
+    ensures meets { MeetsIn (get_or (store_of work.now).literals key []) j high wanted result }
+    ensures number_bound { IfSome result (λ m. (m.number < 4096) × (m.first < 2 ^ 32)) }
 {
-    let number = store::count(work, key);
     let b = bucket(key, wanted);
     let mut at = head(work, b);
+    // each link says where the next literal is: no `for` goes along it
     while at != 0 {
         let cell = LITERAL - 3 + 3 * at;
-        let first = wide(work[cell]);
-        let second = wide(work[cell + 1]);
-        let link = wide(work[cell + 2]);
+        let first = work[cell] as usize;
+        let second = work[cell + 1] as usize;
+        let link = work[cell + 2] as usize;
         if sought(first, second, link / NEXT, key, j, high, wanted) {
-            return Met {
-                number: link / NEXT % MOST,
-                first,
-            };
+            let number = link / NEXT % MOST;
+            return Some(Met { number, first });
         }
         // the head led to a literal of another bucket: this one has none
         if bucket(link / NEXT / MOST, second) != b {
-            return Met { number, first: 0 };
+            return None;
         }
         at = link % NEXT;
     }
-    Met { number, first: 0 }
+    None
 }
 
-// The first literal of a bucket, or 0.
+// The first literal of a bucket, or 0, as in `head`.
 fn start(work: &[u32], b: usize) -> usize
     requires { (Good work.now) × (b < 4096) }
     ensures { result ≡ link_of work.now b 0 }
@@ -119,8 +110,8 @@ fn start(work: &[u32], b: usize) -> usize
         return 0;
     }
     let cell = LITERAL - 3 + 3 * at;
-    let second = wide(work[cell + 1]);
-    let link = wide(work[cell + 2]);
+    let second = work[cell + 1] as usize;
+    let link = work[cell + 2] as usize;
     if bucket(link / NEXT / MOST, second) != b {
         return 0;
     }
@@ -134,9 +125,10 @@ fn tail(work: &[u32], b: usize) -> usize
 {
     let mut at = HEAD + b / 2;
     let mut next = start(work, b);
+    // as in `meet`
     while next != 0 {
         at = LITERAL - 1 + 3 * next;
-        next = wide(work[at]) % NEXT;
+        next = work[at] as usize % NEXT;
     }
     at
 }
@@ -192,7 +184,7 @@ pub fn add(work: &mut [u32], key: usize, first: usize, second: usize)
     let n = store::count(work, key);
     let b = bucket(key, second);
     let at = tail(work, b);
-    let link = relinked(wide(work[at]), side(at, b), g + 1);
+    let link = relinked(work[at] as usize, side(at, b), g + 1);
     write(work, key, g, n, at, link, first, second);
 }
 
@@ -209,5 +201,5 @@ pub fn is_over(work: &[u32]) -> bool
     requires { Good work.now }
     ensures { result ≡ (store_of work.now).over }
 {
-    0 < wide(work[OVER])
+    0 < work[OVER]
 }

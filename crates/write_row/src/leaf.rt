@@ -1,48 +1,42 @@
 // The row of a value that a BLOCK holds, under the topmost node, which is the BLOCK or a NULLABLE above it.
-ghost use Rattle.std.specs.Prelude.{◌≡◌, false, ◌&&◌, ◌||◌, ◌<◌, ◌≤◌, length};
+ghost use Rattle.std.specs.Prelude.{◌≡◌, false, ◌+◌, ◌&&◌, ◌||◌, ◌<◌, ◌≤◌, length};
 ghost use Rattle.std.proofs.Math.Seq.{slice};
 ghost use Rattle.format.specs.Utf8.{is_text};
 ghost use Rattle.format.specs.Table.{varint, float64, fixed};
 ghost use Rattle.format.specs.Write.{fit_leaf};
+ghost use Rattle.rows.specs.Kind.{word_of};
 ghost use Rattle.write_row.specs.Rest.{rest_of};
 ghost use Rattle.write_row.specs.Fits.{text_row, text_leaf};
 ghost use Rattle.write_row.specs.Writes.{Holds};
 ghost use Rattle.write_row.specs.Row.{WritesValue, WritesText, leaf_of, is_judged};
 
-use super::row::Word;
-use super::{Pass, Progress, next, row};
-use rows::{Placed, kind};
+use super::{Progress, next, row};
+use format::{Place, Refusal};
+use label::words;
+use rows::Kind;
 use table::nodes::Leaf;
-use write_bytes::{event, text};
+use write_bytes::encoded::{Label, Part, Word};
+use write_bytes::{Pass, event, text};
 
 // Whether a text may be written: it is UTF-8, or `exempt` says that it is not to be judged.
-fn passes(pool: &[u8], exempt: bool, start: usize, end: usize) -> bool
-    requires { end ≤ length pool.now }
-    ensures { result ≡ (exempt || is_text (slice start end pool.now)) }
+fn passes(pool: &[u8], exempt: bool, place: Place) -> bool
+    requires { place.start + place.size ≤ length pool.now }
+    ensures { result ≡ (exempt || is_text (slice place.start (place.start + place.size) pool.now)) }
 {
-    if exempt {
-        return true;
-    }
-    utf8::is_text(pool, start, end)
+    exempt || utf8::is_text(pool, place.start, place.start + place.size)
 }
 
 // Is the text of this leaf, one of the two that hold texts, judged?
 fn is_judged(leaf: Leaf) -> bool
     ensures { result ≡ is_judged leaf }
 {
-    match leaf {
-        Leaf::String => true,
-        _ => false,
-    }
+    matches!(leaf, Leaf::String)
 }
 
-fn kind_of(judged: bool) -> u64
-    ensures { result ≡ text_row judged }
+fn kind_of(judged: bool) -> Kind
+    ensures { word_of result ≡ text_row judged }
 {
-    if judged {
-        return kind::STRING;
-    }
-    kind::BYTES
+    if judged { Kind::String } else { Kind::Bytes }
 }
 
 // A STRING, whose text is judged and may be ended by a 00, or BYTES. The pass that puts does not judge again: the one that
@@ -57,28 +51,25 @@ fn text(
     judged: bool,
     key: usize,
     node: usize,
-    i: usize,
-    core: usize,
-) -> Progress
-    requires { (Holds pool.now rows.now work.old i core) × (key < 32) }
-    ensures { WritesText how numbered (judged && how.ends) key pool.now rows.now out.old work.old core out.new work.new result (fit_leaf key (text_leaf judged) node false (rest_of pool.now rows.now i)) }
+    at: Progress,
+) -> Result<Progress, Refusal>
+    requires { (Holds pool.now rows.now work.old at.row at.core) × (key < 32) }
+    ensures { WritesText how numbered (judged && how.ends) key pool.now rows.now out.old work.old at.core out.new work.new result (fit_leaf key (text_leaf judged) node false (rest_of pool.now rows.now at.row)) }
 {
     let ended = judged & how.ends;
-    let Placed::At(start, size) = rows::place_under(rows, pool, node as u64, kind_of(judged), i)
-    else {
-        return Progress::Refused(42, i as u64);
-    };
-    if !passes(pool, how.put | !judged, start, start + size) {
-        return Progress::Refused(28, i as u64);
+    let found = rows::place_under(rows, pool, node as u64, kind_of(judged), at.row);
+    let place = found.ok_or(Refusal::Unfit(at.row))?;
+    if !passes(pool, how.put | !judged, place) {
+        return Err(Refusal::Text(at.row));
     }
     next(
-        i,
-        text::emit_text(
-            pool, out, work, how.put, how.inline, numbered, ended, core, key, start, size,
-        ),
+        at.row,
+        text::emit_text(pool, out, work, how, numbered, ended, at.core, key, place),
     )
 }
 
+// VARINT and FLOAT64 have two functions: the rows' kinds differ, what is put is of two types, and one function for both would be
+// passed a closure for its one line.
 fn varint(
     rows: &[u64],
     pool: &[u8],
@@ -88,18 +79,16 @@ fn varint(
     labelled: bool,
     key: usize,
     node: usize,
-    i: usize,
-    core: usize,
-) -> Progress
-    requires { (Holds pool.now rows.now work.old i core) × (key < 32) }
-    ensures { WritesValue how pool.now rows.now out.old work.old core out.new work.new result (fit_leaf key varint node labelled (rest_of pool.now rows.now i)) }
+    at: Progress,
+) -> Result<Progress, Refusal>
+    requires { (Holds pool.now rows.now work.old at.row at.core) × (key < 32) }
+    ensures { WritesValue how pool.now rows.now out.old work.old at.core out.new work.new result (fit_leaf key varint node labelled (rest_of pool.now rows.now at.row)) }
 {
-    let Word::Is(a) = row::word_at(rows, pool, node, kind::INTEGER, i) else {
-        return Progress::Refused(42, i as u64);
-    };
+    let a = row::word_at(rows, pool, node, Kind::Integer, at.row).ok_or(Refusal::Unfit(at.row))?;
+    let value = Label(words::integer_of(a));
     next(
-        i,
-        event::emit_varint(out, work, how.put, how.inline, labelled, core, key, a),
+        at.row,
+        event::emit(out, work, how, labelled, at.core, key, value),
     )
 }
 
@@ -112,18 +101,15 @@ fn float64(
     labelled: bool,
     key: usize,
     node: usize,
-    i: usize,
-    core: usize,
-) -> Progress
-    requires { (Holds pool.now rows.now work.old i core) × (key < 32) }
-    ensures { WritesValue how pool.now rows.now out.old work.old core out.new work.new result (fit_leaf key float64 node labelled (rest_of pool.now rows.now i)) }
+    at: Progress,
+) -> Result<Progress, Refusal>
+    requires { (Holds pool.now rows.now work.old at.row at.core) × (key < 32) }
+    ensures { WritesValue how pool.now rows.now out.old work.old at.core out.new work.new result (fit_leaf key float64 node labelled (rest_of pool.now rows.now at.row)) }
 {
-    let Word::Is(a) = row::word_at(rows, pool, node, kind::FLOAT, i) else {
-        return Progress::Refused(42, i as u64);
-    };
+    let a = row::word_at(rows, pool, node, Kind::Float, at.row).ok_or(Refusal::Unfit(at.row))?;
     next(
-        i,
-        event::emit_float(out, work, how.put, how.inline, labelled, core, key, a),
+        at.row,
+        event::emit(out, work, how, labelled, at.core, key, Word(a)),
     )
 }
 
@@ -137,23 +123,24 @@ fn fixed(
     key: usize,
     n: usize,
     node: usize,
-    i: usize,
-    core: usize,
-) -> Progress
-    requires { (Holds pool.now rows.now work.old i core) × (key < 32) }
-    ensures { WritesValue how pool.now rows.now out.old work.old core out.new work.new result (fit_leaf key (fixed n) node labelled (rest_of pool.now rows.now i)) }
+    at: Progress,
+) -> Result<Progress, Refusal>
+    requires { (Holds pool.now rows.now work.old at.row at.core) × (key < 32) }
+    ensures { WritesValue how pool.now rows.now out.old work.old at.core out.new work.new result (fit_leaf key (fixed n) node labelled (rest_of pool.now rows.now at.row)) }
 {
-    let Placed::At(start, size) = rows::place_under(rows, pool, node as u64, kind::FIXED, i) else {
-        return Progress::Refused(42, i as u64);
-    };
+    let place = rows::place_under(rows, pool, node as u64, Kind::Fixed, at.row);
+    let Place { start, size } = place.ok_or(Refusal::Unfit(at.row))?;
     if size != n {
-        return Progress::Refused(42, i as u64);
+        return Err(Refusal::Unfit(at.row));
     }
+    let bytes = &pool[start..start + size];
+    let value = Part {
+        bytes,
+        ended: false,
+    };
     next(
-        i,
-        event::emit_fixed(
-            pool, out, work, how.put, how.inline, labelled, core, key, start, size,
-        ),
+        at.row,
+        event::emit(out, work, how, labelled, at.core, key, value),
     )
 }
 
@@ -169,16 +156,15 @@ pub fn leaf(
     labelled: bool,
     key: usize,
     node: usize,
-    i: usize,
-    core: usize,
-) -> Progress
-    requires { (Holds pool.now rows.now work.old i core) × (key < 32) }
-    ensures { WritesText how numbered (is_judged leaf && how.ends) key pool.now rows.now out.old work.old core out.new work.new result (fit_leaf key (leaf_of leaf) node labelled (rest_of pool.now rows.now i)) }
+    at: Progress,
+) -> Result<Progress, Refusal>
+    requires { (Holds pool.now rows.now work.old at.row at.core) × (key < 32) }
+    ensures { WritesText how numbered (is_judged leaf && how.ends) key pool.now rows.now out.old work.old at.core out.new work.new result (fit_leaf key (leaf_of leaf) node labelled (rest_of pool.now rows.now at.row)) }
 {
     match leaf {
-        Leaf::Varint => varint(rows, pool, out, work, how, labelled, key, node, i, core),
-        Leaf::Float64 => float64(rows, pool, out, work, how, labelled, key, node, i, core),
-        Leaf::Fixed(n) => fixed(rows, pool, out, work, how, labelled, key, n, node, i, core),
+        Leaf::Varint => varint(rows, pool, out, work, how, labelled, key, node, at),
+        Leaf::Float64 => float64(rows, pool, out, work, how, labelled, key, node, at),
+        Leaf::Fixed(n) => fixed(rows, pool, out, work, how, labelled, key, n, node, at),
         // a STRING or BYTES: one call for both, so that it can be written out here
         _ => text(
             rows,
@@ -190,8 +176,7 @@ pub fn leaf(
             is_judged(leaf),
             key,
             node,
-            i,
-            core,
+            at,
         ),
     }
 }

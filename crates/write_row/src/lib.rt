@@ -6,34 +6,23 @@ ghost use Rattle.write_row.specs.Rest.{rest_of};
 ghost use Rattle.write_row.specs.Opens.{fit_truth, fit_record};
 ghost use Rattle.write_row.specs.Row.{row_progress, Marks, WritesRow, Opens};
 
-use row::{Front, Presence, Truth, Word};
-use rows::kind;
-use write_bytes::{Put, bytes};
+use format::Refusal;
+use row::Presence;
+use rows::Kind;
+use write_bytes::{Pass, bytes};
 
 pub mod leaf;
 pub mod row;
 
-// How far the writing has come: the next row, and where the core's next byte goes. Or a refusal's number and second number.
+// How far the writing has come: the next row, and where the core's next byte goes.
 #[derive(Clone, Copy)]
-pub enum Progress {
-    Done(usize, usize),
-    Refused(u64, u64),
+pub struct Progress {
+    pub row: usize,
+    pub core: usize,
 }
 
-// What a pass does.
-#[derive(Clone, Copy)]
-pub struct Pass {
-    // puts bytes into the output, or only counts them
-    pub put: bool,
-    // InlineEverything
-    pub inline: bool,
-    // NoDeduplication is clear
-    pub numbers: bool,
-    // NullTerminatedStrings: a 00 stands behind the literal of a STRING
-    pub ends: bool,
-}
-
-// A value that is not there and has been written so, or that was refused; or the value is here, with a label in front or none.
+// A value that is not there and has been written so; or the value is here, with a label in front or none. Both are good answers,
+// so that this is no Option and no Result.
 #[derive(Clone, Copy)]
 pub enum Opening {
     Gone(Progress),
@@ -41,43 +30,38 @@ pub enum Opening {
 }
 
 // Row i is done once what it writes is.
-fn next(i: usize, put: Put) -> Progress
+fn next(i: usize, put: Result<usize, Refusal>) -> Result<Progress, Refusal>
     requires { i ≤ 8192 }
     ensures { result ≡ row_progress i put }
 {
-    let Put::To(core) = put else {
-        return Progress::Refused(43, 0);
-    };
-    Progress::Done(i + 1, core)
+    let core = put?;
+    Ok(Progress { row: i + 1, core })
 }
 
 // A row that writes a label alone.
-pub fn mark(out: &mut [u8], put: bool, i: usize, core: usize, l: i64) -> Progress
-    requires { (i ≤ 8192) × (core < 2 ^ 32) }
-    ensures { Marks put out.old out.new i core result l }
+pub fn mark(out: &mut [u8], how: Pass, at: Progress, l: i64) -> Result<Progress, Refusal>
+    requires { (at.row ≤ 8192) × (at.core < 2 ^ 32) }
+    ensures { Marks how.put out.old out.new at.row at.core result l }
 {
-    next(i, bytes::put_label(out, put, core, l))
+    next(at.row, bytes::put_label(out, how.put, at.core, l))
 }
 
 pub fn boolean(
     rows: &[u64],
     pool: &[u8],
     out: &mut [u8],
-    put: bool,
+    how: Pass,
     node: usize,
-    i: usize,
-    core: usize,
-) -> Progress
-    requires { (i ≤ 8192) × (core < 2 ^ 32) }
-    ensures { WritesRow put pool.now rows.now out.old out.new i core result (fit_truth node (rest_of pool.now rows.now i)) }
+    at: Progress,
+) -> Result<Progress, Refusal>
+    requires { (at.row ≤ 8192) × (at.core < 2 ^ 32) }
+    ensures { WritesRow how.put pool.now rows.now out.old out.new at.row at.core result (fit_truth node (rest_of pool.now rows.now at.row)) }
 {
-    let Truth::Is(t) = row::truth_at(rows, pool, node, i) else {
-        return Progress::Refused(42, i as u64);
-    };
+    let t = row::truth_at(rows, pool, node, at.row).ok_or(Refusal::Unfit(at.row))?;
     if t {
-        return mark(out, put, i, core, 1);
+        return mark(out, how, at, 1);
     }
-    mark(out, put, i, core, 0)
+    mark(out, how, at, 0)
 }
 
 // A record's own row.
@@ -85,26 +69,26 @@ pub fn record(
     rows: &[u64],
     pool: &[u8],
     out: &mut [u8],
-    put: bool,
+    how: Pass,
     labelled: bool,
     count: usize,
     node: usize,
-    i: usize,
-    core: usize,
-) -> Progress
-    requires { (i ≤ 8192) × (core < 2 ^ 32) }
-    ensures { WritesRow put pool.now rows.now out.old out.new i core result (fit_record count node labelled (rest_of pool.now rows.now i)) }
+    at: Progress,
+) -> Result<Progress, Refusal>
+    requires { (at.row ≤ 8192) × (at.core < 2 ^ 32) }
+    ensures { WritesRow how.put pool.now rows.now out.old out.new at.row at.core result (fit_record count node labelled (rest_of pool.now rows.now at.row)) }
 {
-    let Word::Is(n) = row::word_at(rows, pool, node, kind::RECORD, i) else {
-        return Progress::Refused(42, i as u64);
-    };
+    let n = row::word_at(rows, pool, node, Kind::Record, at.row).ok_or(Refusal::Unfit(at.row))?;
     if n != count as u64 {
-        return Progress::Refused(42, i as u64);
+        return Err(Refusal::Unfit(at.row));
     }
     if !labelled {
-        return Progress::Done(i + 1, core);
+        return Ok(Progress {
+            row: at.row + 1,
+            core: at.core,
+        });
     }
-    mark(out, put, i, core, 0)
+    mark(out, how, at, 0)
 }
 
 // What stands in front of a value that may be absent or null: its row is under `node`, the topmost one.
@@ -112,25 +96,23 @@ pub fn open_value(
     rows: &[u64],
     pool: &[u8],
     out: &mut [u8],
-    put: bool,
+    how: Pass,
     omittable: bool,
     nullable: bool,
     node: usize,
-    i: usize,
-    core: usize,
-) -> Opening
-    requires { (i ≤ 8192) × (core < 2 ^ 32) }
-    ensures { Opens put omittable nullable pool.now rows.now out.old out.new node i core result }
+    at: Progress,
+) -> Result<Opening, Refusal>
+    requires { (at.row ≤ 8192) × (at.core < 2 ^ 32) }
+    ensures { Opens how.put omittable nullable pool.now rows.now out.old out.new node at.row at.core result }
 {
     if !(omittable | nullable) {
-        return Opening::Here(false);
+        return Ok(Opening::Here(false));
     }
-    let Front::Is(presence) = row::front_at(rows, pool, node, omittable, nullable, i) else {
-        return Opening::Gone(Progress::Refused(42, i as u64));
-    };
+    let front = row::front_at(rows, pool, node, omittable, nullable, at.row);
+    let presence = front.ok_or(Refusal::Unfit(at.row))?;
     match presence {
-        Presence::Absent => Opening::Gone(mark(out, put, i, core, -2)),
-        Presence::Null => Opening::Gone(mark(out, put, i, core, -1)),
-        Presence::Here => Opening::Here(true),
+        Presence::Absent => Ok(Opening::Gone(mark(out, how, at, -2)?)),
+        Presence::Null => Ok(Opening::Gone(mark(out, how, at, -1)?)),
+        Presence::Here => Ok(Opening::Here(true)),
     }
 }

@@ -1,26 +1,13 @@
 // What a row shows, where it is a row of the kind that is wanted, under the node that is wanted.
-ghost use Rattle.std.specs.Prelude.{◌≡◌, cond, ◌≤◌, eqb, length};
-ghost use Rattle.std.proofs.Math.Option.{none, some};
+ghost use Rattle.std.specs.Prelude.{◌≡◌, ◌≤◌, length};
 ghost use Rattle.format.specs.Row.{integer_row};
+ghost use Rattle.rows.specs.Kind.{word_of};
 ghost use Rattle.rows.specs.Seen.{found_under};
 ghost use Rattle.write_row.specs.Judged.{value_in, truth_of, front_of, word, Small, truth, front};
 
-use label::words;
-use rows::{Seen, kind};
+use rows::Kind;
 
-#[derive(Clone, Copy)]
-pub enum Word {
-    Is(u64),
-    Not,
-}
-
-#[derive(Clone, Copy)]
-pub enum Truth {
-    Is(bool),
-    Not,
-}
-
-// Of a value that may be absent or null: which of them it is, or that it is here.
+// Of a value that may be absent or null: which of them it is, or that it is here. Three good answers, so no Option.
 #[derive(Clone, Copy)]
 pub enum Presence {
     Absent,
@@ -28,45 +15,24 @@ pub enum Presence {
     Here,
 }
 
-#[derive(Clone, Copy)]
-pub enum Front {
-    Is(Presence),
-    Not,
-}
-
-// A kind's own word, if it is the kind that is wanted.
-fn word_if(kind: u64, shown: u64, a: u64) -> Word
-    ensures result_value { word result ≡ cond (eqb shown kind) (some a) none }
-    ensures small { Small result }
-{
-    if shown != kind {
-        return Word::Not;
-    }
-    Word::Is(a)
-}
-
 // The word of an integer, a float, a record or an array.
-pub fn word_at(rows: &[u64], pool: &[u8], node: usize, kind: u64, i: usize) -> Word
-    requires { integer_row ≤ kind }
-    ensures result_value { word result ≡ value_in kind (found_under node rows.now (length pool.now) i) }
+pub fn word_at(rows: &[u64], pool: &[u8], node: usize, kind: Kind, i: usize) -> Option<u64>
+    requires { integer_row ≤ word_of kind }
+    ensures result_value { word result ≡ value_in (word_of kind) (found_under node rows.now (length pool.now) i) }
     ensures small { Small result }
 {
-    let seen = rows::look_under(rows, pool, node as u64, i);
-    match seen {
-        Seen::Integer(n) => word_if(kind, kind::INTEGER, words::word_of(n)),
-        Seen::Float(_, bits) => word_if(kind, kind::FLOAT, bits),
-        Seen::Count { kind: shown, count } => word_if(kind, shown, count),
-        _ => Word::Not,
-    }
+    rows::word_under(rows, node as u64, kind, i)
 }
 
-pub fn truth_at(rows: &[u64], pool: &[u8], node: usize, i: usize) -> Truth
+pub fn truth_at(rows: &[u64], pool: &[u8], node: usize, i: usize) -> Option<bool>
     ensures { truth result ≡ truth_of (found_under node rows.now (length pool.now) i) }
 {
-    let Seen::Truth(t) = rows::look_under(rows, pool, node as u64, i) else {
-        return Truth::Not;
-    };
-    Truth::Is(t)
+    let kind = rows::kind_under(rows, pool, node as u64, i)?;
+    match kind {
+        Kind::True => Some(true),
+        Kind::False => Some(false),
+        _ => None,
+    }
 }
 
 pub fn front_at(
@@ -76,24 +42,23 @@ pub fn front_at(
     omittable: bool,
     nullable: bool,
     i: usize,
-) -> Front
+) -> Option<Presence>
     ensures { front result ≡ front_of omittable nullable (found_under node rows.now (length pool.now) i) }
 {
-    let seen = rows::look_under(rows, pool, node as u64, i);
-    match seen {
-        Seen::Absent => {
+    let kind = rows::kind_under(rows, pool, node as u64, i)?;
+    match kind {
+        Kind::Absent => {
             if omittable {
-                return Front::Is(Presence::Absent);
+                return Some(Presence::Absent);
             }
-            Front::Is(Presence::Here)
+            Some(Presence::Here)
         }
-        Seen::Null => {
+        Kind::Null => {
             if nullable {
-                return Front::Is(Presence::Null);
+                return Some(Presence::Null);
             }
-            Front::Is(Presence::Here)
+            Some(Presence::Here)
         }
-        Seen::Refused { number: _ } => Front::Not,
-        _ => Front::Is(Presence::Here),
+        _ => Some(Presence::Here),
     }
 }

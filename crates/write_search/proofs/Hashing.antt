@@ -1,39 +1,19 @@
 -- The hash, function by function, and eight bytes at a time.
 use mathlib.Core.Path.{◌≡◌, refl, sym, ap, ◌∙◌}
-use mathlib.Core.Bool.{true, ◌&&◌}
 use mathlib.Core.List.{List}
 use Prim.Native.Nat.{ℕ, zero, suc, ◌+◌, ◌-◌, ◌*◌, ◌/◌, ◌%◌, ◌<◌, ◌≤◌}
 use native.Mathlib.Omega.{arith}
 use native.Mathlib.Nat.{add-zero}
-use lib.Dec.{eqb}
 use lib.ListN.{length, get_or}
-use borrow.Author.Tests.{eqb-true, ne_eqb, lt-ltb, le-ltb}
+use borrow.Author.Tests.{ne_eqb, lt-ltb, le-ltb}
 use Rattle.format.specs.Row.{Place, bytes_at, Text}
-use Rattle.laws.specs.Facts.{and-true, by-eq, by-lt}
+use Rattle.laws.specs.Facts.{by-eq, by-lt}
 use Rattle.write_search.specs.Hash.{word4, word8, few, spread, mixed, stride, folded, whole, ended, hash}
 use Rattle.write_search.specs.Parts.{part_length, part_at}
 
 pub mixed-is : (h w : ℕ) → (31 * h + spread w / 4294967296 + spread w % 4294967296) % 4294967296 ≡ mixed h w
 unfolding mixed
 mixed-is h w = refl
-
-products : (a b : ℕ) → a < 4294967296 → b < 4294967296 → a * 2246822519 + b * 1540483477 < 18446744073709551616
-products a b h l = omega arith
-
-lower : (w : ℕ) → w % 4294967296 < 4294967296
-lower w = omega arith
-
-upper : (w : ℕ) → w < 18446744073709551616 → w / 4294967296 < 4294967296
-upper w h = omega arith
-
-pub spread-small : (w : ℕ) → w < 18446744073709551616 → spread w < 18446744073709551616
-spread-small w h = products (w % 4294967296) (w / 4294967296) (lower w) (upper w h)
-
-three : (h a b : ℕ) → h < 4294967296 → a < 4294967296 → b < 4294967296 → (31 * h + a < 18446744073709551616) × (31 * h + a + b < 18446744073709551616)
-three h a b p q r = omega arith
-
-pub mixed-in : (h w : ℕ) → h < 4294967296 → w < 18446744073709551616 → (31 * h + spread w / 4294967296 < 18446744073709551616) × (31 * h + spread w / 4294967296 + spread w % 4294967296 < 18446744073709551616)
-mixed-in h w p q = three h (spread w / 4294967296) (spread w % 4294967296) p (upper (spread w) (spread-small w q)) (lower (spread w))
 
 pub ended_is : (h : ℕ) → h * 3266489917 / 65536 % 134217728 ≡ ended h
 unfolding ended
@@ -47,13 +27,28 @@ pub stride-short : (size : ℕ) → size ≤ 64 → 8 ≡ stride size
 unfolding stride
 stride-short size h = rw (le-ltb 64 size h)
 
-pub word8-is : (v : Text) (i : ℕ) {a b : ℕ} → a ≡ word4 v i → b ≡ word4 v (i + 4) → a + 4294967296 * b ≡ word8 v i
+pub word8-is : (v : Text) (i : ℕ) {n : ℕ}
+    → n ≡ get_or v i 0 + 256 * get_or v (i + 1) 0 + 65536 * get_or v (i + 2) 0 + 16777216 * get_or v (i + 3) 0 + 4294967296 * get_or v (i + 4) 0
+    + 1099511627776 * get_or v (i + 5) 0 + 281474976710656 * get_or v (i + 6) 0 + 72057594037927936 * get_or v (i + 7) 0
+    → n ≡ word8 v i
 unfolding word8
-word8-is v i e f = rw (e, f)
+word8-is v i e =
+    let a₁ : i + 4 + 1 ≡ i + 5 = omega arith in
+    let a₂ : i + 4 + 2 ≡ i + 6 = omega arith in
+    let a₃ : i + 4 + 3 ≡ i + 7 = omega arith in
+    rw (a₁, a₂, a₃) (omega (arith, e))
 
-pub folded-none : (v : Text) (step : ℕ) → 0 ≡ folded v step 0
+-- h is made of the words of v before i, t of them
+pub record FoldedTo (v : Text) (step i h : ℕ) : Type 0 where
+  pub t : ℕ
+  pub at : i ≡ step * t
+  pub few : t ≤ i
+  pub inside : t ≤ length v
+  pub is : h ≡ folded v step t
+
+pub folded-none : (v : Text) (step : ℕ) → FoldedTo v step 0 0
 unfolding folded
-folded-none v step = refl
+folded-none v step = record { t = 0; at = omega arith; few = omega arith; inside = omega arith; is = refl }
 
 -- ---- of a part of the pool
 
@@ -100,12 +95,18 @@ module _ (pool : List ℕ) (p : Place) (inside : p.start + p.size ≤ length poo
   hash-long h e f = rw (size_is, le-ltb p.size 8 h) (f ∙ ap ended e)
 
   -- one word more
-  pub folded_more : (step t : ℕ) {h x i : ℕ} → h ≡ folded v step t → i ≡ step * t → i + 8 < p.size → x ≡ mixed h (word8 pool (p.start + i)) → x ≡ folded v step (suc t)
+  pub folded_more : {step i h x : ℕ} → FoldedTo v step i h → 0 < step → i + 8 < p.size → x ≡ mixed h (word8 pool (p.start + i)) → FoldedTo v step (i + step) x
   unfolding folded
-  folded_more step t eh ei l ex =
+  folded_more {step} {i} {h} {x} f o l ex =
       let s = size_is in
-      let b : step * t + 8 < length v = omega arith in
-      rw (lt-ltb (step * t + 8) (length v) b) (ex ∙ rw (eh, ei) (ap (λ (y : ℕ). mixed (folded v step t) y) (word8-part (step * t) (omega arith))))
+      let b : step * f.t + 8 < length v = omega (arith, f.at) in
+      record {
+        t = suc f.t;
+        at = omega (arith, f.at);
+        few = omega (arith, f.few);
+        inside = omega (arith, f.few);
+        is = rw (lt-ltb (step * f.t + 8) (length v) b) (ex ∙ rw (f.is, f.at) (ap (λ (y : ℕ). mixed (folded v step f.t) y) (word8-part (step * f.t) (omega (arith, f.at)))));
+      }
 
   -- and no word more
   folded-same : (step t d : ℕ) → p.size ≤ step * t + 8 → folded v step (t + d) ≡ folded v step t
@@ -117,11 +118,12 @@ module _ (pool : List ℕ) (p : Place) (inside : p.start + p.size ≤ length poo
       let b : length v ≤ step * (t + d) + 8 = omega arith in
       rw (e, le-ltb (step * (t + d) + 8) (length v) b) (folded-same step t d h)
 
-  pub whole_is : (t : ℕ) {step h i x : ℕ} → step ≡ stride p.size → h ≡ folded v step t → i ≡ step * t → t ≤ p.size → p.size ≤ i + 8 → 8 ≤ p.size → x ≡ mixed h (word8 pool (p.start + (p.size - 8))) → x ≡ whole v
+  pub whole_is : {step i h x : ℕ} → step ≡ stride p.size → FoldedTo v step i h → p.size ≤ i + 8 → 8 ≤ p.size → x ≡ mixed h (word8 pool (p.start + (p.size - 8))) → x ≡ whole v
   unfolding whole
-  whole_is t {step} {h} {i} {x} es eh ei ht l long ex =
-      let e : t + (p.size - t) ≡ p.size = omega arith in
-      let y : folded v step p.size ≡ h = ap (λ (n : ℕ). folded v step n) (sym e) ∙ folded-same step t (p.size - t) (omega arith) ∙ sym eh in
+  whole_is {step} {i} {h} {x} es f long enough ex =
+      let t : ℕ = f.t in
+      let e : t + (p.size - t) ≡ p.size = omega (arith, f.inside, size_is) in
+      let y : folded v step p.size ≡ h = ap (λ (n : ℕ). folded v step n) (sym e) ∙ folded-same step t (p.size - t) (omega (arith, f.at)) ∙ sym f.is in
       rw (size_is, ← es, y) (ex ∙ ap (λ (n : ℕ). mixed h n) (word8-part (p.size - 8) (omega arith)))
 
 -- ---- eight at a time
@@ -157,16 +159,40 @@ alike-more pool a b from k before eight i h l = by-lt i k
     let y : b + k + (i - k) ≡ b + i = omega arith in
     rw (x, y) at (eight (i - k) (omega arith)))
 
-pub same-eight : (pool : List ℕ) (a b : ℕ)
-    → (((((((eqb (get_or pool a 0) (get_or pool b 0) && eqb (get_or pool (a + 1) 0) (get_or pool (b + 1) 0)) && eqb (get_or pool (a + 2) 0) (get_or pool (b + 2) 0)) && eqb (get_or pool (a + 3) 0) (get_or pool (b + 3) 0))
-    && eqb (get_or pool (a + 4) 0) (get_or pool (b + 4) 0)) && eqb (get_or pool (a + 5) 0) (get_or pool (b + 5) 0)) && eqb (get_or pool (a + 6) 0) (get_or pool (b + 6) 0)) && eqb (get_or pool (a + 7) 0) (get_or pool (b + 7) 0)) ≡ true
-    → (i : ℕ) → i < 8 → get_or pool (a + i) 0 ≡ get_or pool (b + i) 0
-same-eight pool a b e =
-    let e₇ = and-true _ _ e in
-    let e₆ = and-true _ _ e₇.0 in
-    let e₅ = and-true _ _ e₆.0 in
-    let e₄ = and-true _ _ e₅.0 in
-    let e₃ = and-true _ _ e₄.0 in
-    let e₂ = and-true _ _ e₃.0 in
-    let e₁ = and-true _ _ e₂.0 in
-    eight (λ i. get_or pool (a + i) 0 ≡ get_or pool (b + i) 0) (rw (add-zero a, add-zero b) (eqb-true _ _ e₁.0)) (eqb-true _ _ e₁.1) (eqb-true _ _ e₂.1) (eqb-true _ _ e₃.1) (eqb-true _ _ e₄.1) (eqb-true _ _ e₅.1) (eqb-true _ _ e₆.1) (eqb-true _ _ e₇.1)
+-- the lowest byte of two equal numbers, and what stands above it
+digit : (a b c d : ℕ) → a < 256 → c < 256 → a + 256 * b ≡ c + 256 * d → (a ≡ c) × (b ≡ d)
+digit a b c d h l e = (omega arith, omega arith)
+
+module _ (pool : List ℕ) (bytes : (i : ℕ) → get_or pool i 0 < 256) where
+  abbrev at : ℕ → ℕ
+  at i = get_or pool i 0
+
+  word4-small : (a : ℕ) → word4 pool a < 4294967296
+  word4-small a = omega (arith, bytes a, bytes (a + 1), bytes (a + 2), bytes (a + 3))
+
+  same-four : (a b : ℕ) → word4 pool a ≡ word4 pool b → (at a ≡ at b) × (at (a + 1) ≡ at (b + 1)) × (at (a + 2) ≡ at (b + 2)) × (at (a + 3) ≡ at (b + 3))
+  same-four a b e =
+      let d₀ = digit (at a) (at (a + 1) + 256 * (at (a + 2) + 256 * at (a + 3))) (at b) (at (b + 1) + 256 * (at (b + 2) + 256 * at (b + 3))) (bytes a) (bytes b) (omega arith) in
+      let d₁ = digit (at (a + 1)) (at (a + 2) + 256 * at (a + 3)) (at (b + 1)) (at (b + 2) + 256 * at (b + 3)) (bytes (a + 1)) (bytes (b + 1)) d₀.1 in
+      let d₂ = digit (at (a + 2)) (at (a + 3)) (at (b + 2)) (at (b + 3)) (bytes (a + 2)) (bytes (b + 2)) d₁.1 in
+      (d₀.0, d₁.0, d₂.0, d₂.1)
+
+  same-halves : (a b : ℕ) → word8 pool a ≡ word8 pool b → (word4 pool a ≡ word4 pool b) × (word4 pool (a + 4) ≡ word4 pool (b + 4))
+  unfolding word8
+  same-halves a b e = halves (word4 pool a) (word4 pool (a + 4)) (word4 pool b) (word4 pool (b + 4)) (word4-small a) (word4-small b) e
+    where
+      halves : (m n k l : ℕ) → m < 4294967296 → k < 4294967296 → m + 4294967296 * n ≡ k + 4294967296 * l → (m ≡ k) × (n ≡ l)
+      halves m n k l h j e = (omega arith, omega arith)
+
+  pub same-eight : (a b : ℕ) → word8 pool a ≡ word8 pool b → (i : ℕ) → i < 8 → at (a + i) ≡ at (b + i)
+  same-eight a b e =
+      let h = same-halves a b e in
+      let l = same-four a b h.0 in
+      let u = same-four (a + 4) (b + 4) h.1 in
+      eight (λ i. at (a + i) ≡ at (b + i)) (rw (add-zero a, add-zero b) l.0) l.1 l.2 l.3 u.0 (shift 1 u.1) (shift 2 u.2) (shift 3 u.3)
+    where
+      shift : (k : ℕ) → at (a + 4 + k) ≡ at (b + 4 + k) → at (a + (4 + k)) ≡ at (b + (4 + k))
+      shift k q =
+          let x : a + 4 + k ≡ a + (4 + k) = omega arith in
+          let y : b + 4 + k ≡ b + (4 + k) = omega arith in
+          rw (x, y) at q

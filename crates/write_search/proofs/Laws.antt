@@ -16,6 +16,9 @@ use Rattle.format.specs.Read.{nth}
 use Rattle.format.specs.Write.{same_text, further, first_equal}
 use Rattle.laws.specs.Texts.{same-eq, same_refl}
 use Rattle.laws.specs.Facts.{by_bool, absurd-some, and-true, true-and}
+use Rattle.std.specs.Prelude as code
+use Rattle.write_literals.specs.declared.Met.{Met}
+use Rattle.write_literals.specs.Meeting.{MeetsIn}
 use Rattle.write_literals.specs.Store.{Literal}
 use Rattle.write_literals.specs.Words.{Meets}
 use Rattle.store.specs.Laws.{nth-there}
@@ -229,6 +232,26 @@ module _ {pool : List ℕ} {p : Place} {xs : List Literal} {near pairs j k first
       let l = s.least in
       let e : j + (k - j) ≡ k = omega arith in
       rw e at (passed (k - j) (omega arith) r)
+
+-- where the search stands: at the literal that was met, or behind all of them
+abbrev pub stands_at : List Literal → code.Option Met → ℕ
+stands_at xs (code.Some m) = m.number
+stands_at xs code.None = length xs
+
+-- a literal that was met has the words that were asked for
+abbrev pub Asked : List Literal → ℕ → ℕ → code.Option Met → Type 0
+Asked xs word high (code.Some m) = (m.number < length xs) × (nth xs m.number ≡ some (record { first = m.first; second = word })) × (m.first / 131072 ≡ high) × (m.number < 4096) × (m.first < 2 ^ 32)
+Asked xs word high code.None = Unit {0}
+
+pub met_on : {pool : List ℕ} {p : Place} {xs : List Literal} {near pairs j word : ℕ} → p.start + p.size ≤ length pool
+    → ((i : ℕ) (x : Literal) → nth xs i ≡ some x → IsLiteral pool (texts_of pool xs) i x) → pairs < 98304 → word ≡ second_word p.size near pairs → (met : code.Option Met)
+    → MeetsIn xs j (pairs / 8) word met → code.IfSome met (λ m. (m.number < 4096) × (m.first < 2 ^ 32)) → Reached pool p xs j near pairs
+    → Asked xs (second_word p.size near pairs) (pairs / 8) met × Reached pool p xs (stands_at xs met) near pairs
+met_on inside stands few e (code.Some m) s b r =
+    let s₁ = rw e at s in
+    let h = s₁.1.here s₁.0 in
+    ((s₁.0, h.0, h.1, b.0, b.1), reached-on inside stands few s₁.1 r)
+met_on inside stands few e code.None s b r = (tt, reached-on inside stands few (rw e at s) r)
 
 -- the words to keep the text by
 pub keeps : (pool : List ℕ) (ts : List Text) (p : Place) {near pairs word : ℕ} → p.start < 131072 → p.size < 131072 → near < 4096 → word ≡ second_word p.size near pairs

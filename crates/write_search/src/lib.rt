@@ -8,17 +8,16 @@ ghost use Rattle.write_literals.specs.Words.{store_of, Good};
 ghost use Rattle.write_search.specs.Hash.{word4 as word4_of, word8 as word8_of, few as few_of, mixed as mixed_of, stride as stride_of, whole as whole_of, ended as ended_of, hash as hash_of};
 ghost use Rattle.write_search.specs.Search.{number, second_word, AreLiterals, InWords, KeepAs, texts_of};
 
-// A kept word has a place in its bits below this one, and a part of the front above.
-const SPAN: usize = 131072;
+use write_literals::{Met, SPAN};
 
 // A half of a word of eight bytes.
 const HALF: u64 = 4294967296;
 
-// The literal's number, or the two words to keep the text by.
+// The literal's number, or the two words to keep the text by: both are good answers.
 #[derive(Clone, Copy)]
 pub enum Found {
     Number(usize),
-    Nothing(usize, usize),
+    Nothing { first: usize, second: usize },
 }
 
 // The second word to keep a text by. Nearly always it tells whether a literal may be equal.
@@ -29,31 +28,32 @@ fn second_word(size: usize, near: usize, pairs: usize) -> usize
     size + SPAN * (near + 4096 * (pairs % 8))
 }
 
-fn wide(x: u8) -> u64
-    ensures { (result ≡ x) × (result < 256) }
-{
-    x as u64
-}
-
 // Four bytes as a number, the lowest first.
 fn word4(pool: &[u8], i: usize) -> u64
     requires { (i + 4 ≤ length pool.now) × (length pool.now ≤ 65536) }
     ensures { (result ≡ word4_of pool.now i) × (result < 4294967296) }
 {
-    wide(pool[i])
-        + 256 * wide(pool[i + 1])
-        + 65536 * wide(pool[i + 2])
-        + 16777216 * wide(pool[i + 3])
+    u64::from(u32::from_le_bytes([pool[i], pool[i + 1], pool[i + 2], pool[i + 3]]))
 }
 
 fn word8(pool: &[u8], i: usize) -> u64
     requires { (i + 8 ≤ length pool.now) × (length pool.now ≤ 65536) }
     ensures { (result ≡ word8_of pool.now i) × (result < 18446744073709551616) }
 {
-    word4(pool, i) + HALF * word4(pool, i + 4)
+    u64::from_le_bytes([
+        pool[i],
+        pool[i + 1],
+        pool[i + 2],
+        pool[i + 3],
+        pool[i + 4],
+        pool[i + 5],
+        pool[i + 6],
+        pool[i + 7],
+    ])
 }
 
-// The first and last bytes of a text of fewer than eight.
+// The first and last bytes of a text of fewer than eight. Here and below a text's start and its size are two numbers and no
+// Place: each is reckoned with by itself, and a Place would be taken apart at once.
 fn few(pool: &[u8], start: usize, size: usize) -> u64
     requires { (start + size ≤ length pool.now) × (length pool.now ≤ 65536) × (size < 8) }
     ensures { (result ≡ few_of (bytes_at pool.now (record { start = start; size = size }))) × (result < 18446744073709551616) }
@@ -62,9 +62,9 @@ fn few(pool: &[u8], start: usize, size: usize) -> u64
         if size == 0 {
             return 0;
         }
-        return wide(pool[start])
-            + 256 * wide(pool[start + size / 2])
-            + 65536 * wide(pool[start + (size - 1)]);
+        return u64::from(pool[start])
+            + 256 * u64::from(pool[start + size / 2])
+            + 65536 * u64::from(pool[start + (size - 1)]);
     }
     word4(pool, start) + HALF * word4(pool, start + (size - 4))
 }
@@ -88,19 +88,15 @@ fn stride(size: usize) -> usize
     8
 }
 
-// All words of a text of eight bytes or more. `t` counts them.
+// All words of a text of eight bytes or more.
 fn whole(pool: &[u8], start: usize, size: usize) -> u64
     requires { (start + size ≤ length pool.now) × (length pool.now ≤ 65536) × (8 ≤ size) }
     ensures { (result ≡ whole_of (bytes_at pool.now (record { start = start; size = size }))) × (result < 4294967296) }
 {
     let step = stride(size);
     let mut h = 0;
-    let mut i = 0;
-    let mut t: usize = 0;
-    while i + 8 < size {
+    for i in (0..size - 8).step_by(step) {
         h = mixed(h, word8(pool, start + i));
-        i += step;
-        t += 1;
     }
     mixed(h, word8(pool, start + (size - 8)))
 }
@@ -128,29 +124,34 @@ fn same8(pool: &[u8], a: usize, b: usize) -> bool
     requires { (a + 8 ≤ length pool.now) × (b + 8 ≤ length pool.now) × (length pool.now ≤ 65536) }
     ensures { result ≡ true → (i : ℕ) → i < 8 → get_or pool.now (a + i) 0 ≡ get_or pool.now (b + i) 0 }
 {
-    (pool[a] == pool[b])
-        & (pool[a + 1] == pool[b + 1])
-        & (pool[a + 2] == pool[b + 2])
-        & (pool[a + 3] == pool[b + 3])
-        & (pool[a + 4] == pool[b + 4])
-        & (pool[a + 5] == pool[b + 5])
-        & (pool[a + 6] == pool[b + 6])
-        & (pool[a + 7] == pool[b + 7])
+    word8(pool, a) == word8(pool, b)
 }
 
-// From byte `from` on, eight bytes at a time, as long as they are equal.
+// From byte `from` on, eight bytes at a time, as long as they are equal. Where it stops is the answer, so a `for` is no plainer.
 fn alike_to(pool: &[u8], a: usize, b: usize, from: usize, size: usize) -> usize
     requires { (a + size ≤ length pool.now) × (b + size ≤ length pool.now) × (length pool.now ≤ 65536) × (from ≤ size) }
     ensures { (from ≤ result) × (result ≤ size) × ((i : ℕ) → from ≤ i → i < result → get_or pool.now (a + i) 0 ≡ get_or pool.now (b + i) 0) }
 {
     let mut k = from;
-    while k + 8 <= size {
-        if !same8(pool, a + k, b + k) {
-            return k;
-        }
+    while k + 8 <= size && same8(pool, a + k, b + k) {
         k += 8;
     }
     k
+}
+
+// How many bytes are equal, where those before byte `from` are.
+fn alike(pool: &[u8], a: usize, b: usize, from: usize, size: usize) -> usize
+    requires { (a + size ≤ length pool.now) × (b + size ≤ length pool.now) × (length pool.now ≤ 65536) × (from ≤ size) }
+    ensures bounds { (from ≤ result) × (result ≤ size) }
+    ensures equal { (i : ℕ) → from ≤ i → i < result → get_or pool.now (a + i) 0 ≡ get_or pool.now (b + i) 0 }
+    ensures differ { result < size → get_or pool.now (a + result) 0 ≡ get_or pool.now (b + result) 0 → ⊥ }
+{
+    for k in alike_to(pool, a, b, from, size)..size {
+        if pool[a + k] != pool[b + k] {
+            return k;
+        }
+    }
+    size
 }
 
 // The number of the key's first literal that equals the `size` bytes of the pool from `start`.
@@ -161,43 +162,31 @@ pub fn choose(pool: &[u8], work: &[u32], key: usize, start: usize, size: usize) 
     ensures in_words { InWords result }
     ensures keep_as { KeepAs pool.now (texts_of pool.now (get_or (store_of work.now).literals key [])) (record { start = start; size = size }) result }
 {
-    let n = store::count(work, key);
     let h = hash(pool, start, size);
     // a text that was not compared with any has bits of its hash, and a mark
     let mut near = h % 4096;
     let mut pairs = 65536 + h / 4096;
     let mut known = 0;
-    let met = write_literals::meet(work, key, 0, pairs / 8, second_word(size, near, pairs));
-    let mut j = met.number;
-    let mut first = met.first;
-    'search: while j < n {
-        let from = first % SPAN;
-        let mut k = alike_to(pool, from, start, known, size);
-        loop {
-            if k == size {
-                break 'search;
-            }
-            if pool[from + k] != pool[start + k] {
-                break;
-            }
-            k += 1;
+    let mut met = write_literals::meet(work, key, 0, pairs / 8, second_word(size, near, pairs));
+    // what is looked for next depends on what was met: no `for` goes over it
+    while let Some(Met { number, first }) = met {
+        let equal = alike(pool, first % SPAN, start, known, size);
+        if equal == size {
+            return Found::Number(number);
         }
-        near = j;
-        pairs = k / 2;
+        near = number;
+        pairs = equal / 2;
         known = 2 * pairs;
-        let next = write_literals::meet(
+        met = write_literals::meet(
             work,
             key,
-            j + 1,
+            number + 1,
             pairs / 8,
             second_word(size, near, pairs),
         );
-        j = next.number;
-        first = next.first;
     }
-    if j < n {
-        Found::Number(j)
-    } else {
-        Found::Nothing(start + SPAN * (pairs / 8), second_word(size, near, pairs))
+    Found::Nothing {
+        first: start + SPAN * (pairs / 8),
+        second: second_word(size, near, pairs),
     }
 }

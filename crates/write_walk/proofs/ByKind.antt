@@ -1,5 +1,5 @@
 -- A value by what stands in front of it and by its kind, at each return. Assumes nothing.
-use mathlib.Core.Path.{◌≡◌, refl, sym, ap, ap₂, ◌∙◌, subst}
+use mathlib.Core.Path.{◌≡◌, refl, sym, ap, ap₂, ◌∙◌}
 use mathlib.Core.Bool.{Bool, false, not, ◌&&◌}
 use mathlib.Core.List.{List, [], ◌∷◌}
 use mathlib.Core.Option.{none, some}
@@ -8,7 +8,10 @@ use native.Mathlib.Omega.{arith}
 use lib.Dec.{eqb}
 use lib.IntN.{ℤ, pos}
 use lib.ListN.{length}
+use Rattle.std.specs.Prelude.{Result, Ok, Err}
 use Rattle.format.specs.Answer.{Answer, ok, refuse, ◌>>=◌}
+use Rattle.format.specs.declared.refusal.Refusal.{Refusal}
+use Rattle.format.specs.declared.refusal.Refusal.TheVariants.{Unfit}
 use Rattle.format.specs.Label.{integer}
 use Rattle.format.specs.Modes.{null_terminated_strings, no_deduplication}
 use Rattle.format.specs.Table.{node_at, deduplicate, BOOLEAN, RECORD, ARRAY, BLOCK, NULLABLE, Wire, array, fields, Node, Fields, wire_of, Leaf, string, varint, float64, bytes, fixed}
@@ -27,10 +30,7 @@ use Rattle.wire_types.specs.Typed.{held_in, IsNode, IsWire, AreFields, FitsNode,
 use Rattle.wire_types.specs.Nodes.{nullable-is, wire-of}
 use Rattle.wire_types.specs.Path.{path_below, path-less, fits-own}
 use Rattle.write_row.specs.declared.Progress.{Progress}
-use Rattle.write_row.specs.declared.Progress.TheVariants.{Done, Refused}
-use Rattle.write_row.specs.declared.Pass.{Pass}
-use Rattle.write_row.specs.declared.Opening.{Opening}
-use Rattle.write_row.specs.declared.Opening.TheVariants.{Gone, Here}
+use Rattle.write_bytes.specs.declared.Pass.{Pass}
 use Rattle.write_row.specs.Rest.{rest_of}
 use Rattle.write_row.specs.Judged.{value_in}
 use Rattle.write_row.specs.Writes.{Holds, Writes}
@@ -38,14 +38,14 @@ use Rattle.write_row.specs.Laws.{joined, along, refuses, done-holds, seqs, seqs-
 use Rattle.write_row.specs.Used.{node-uses, entries-use}
 use Rattle.write_row.specs.Fits.{looked, value_there}
 use Rattle.write_row.specs.Opens.{fit_value, fit_truth, boolean-truth, fit_record, record-first, array-not, array-is}
-use Rattle.write_row.specs.Row.{Marks, WritesRow, OpensGone, OpensHere, Opens, WritesText, leaf_of, is_judged}
+use Rattle.write_row.specs.Row.{Marks, WritesRow, OpensGone, OpensHere, WritesText, leaf_of, is_judged}
 use Rattle.write_walk.specs.Pass.{WritesBy, WritesNode, WritesWire, WritesFields, WritesEntries}
 
 -- a row that has to do with no work, done
-pub row-holds : {put : Bool} {pool rows out out' w : List ℕ} {i core i' core' : ℕ} {r : Progress} {a : Answer (List Event × Rest)} → Holds pool rows w i core → WritesRow put pool rows out out' i core r a → r ≡ Done i' core' → Holds pool rows w i' core'
+pub row-holds : {put : Bool} {pool rows out out' w : List ℕ} {i core : ℕ} {n : Progress} {r : Result Progress Refusal} {a : Answer (List Event × Rest)} → Holds pool rows w i core → WritesRow put pool rows out out' i core r a → r ≡ Ok n → Holds pool rows w n.row n.core
 row-holds {w = w} h d q = done-holds (d.writes 0 (held_in []) w h) q
 
-pub mark-holds : {put : Bool} {pool rows out out' w : List ℕ} {i core i' core' : ℕ} {r : Progress} {l : ℤ} → Holds pool rows w i core → i < row_count rows → Marks put out out' i core r l → r ≡ Done i' core' → Holds pool rows w i' core'
+pub mark-holds : {put : Bool} {pool rows out out' w : List ℕ} {i core : ℕ} {n : Progress} {r : Result Progress Refusal} {l : ℤ} → Holds pool rows w i core → i < row_count rows → Marks put out out' i core r l → r ≡ Ok n → Holds pool rows w n.row n.core
 mark-holds {pool = pool} {rows} h t d q = row-holds h (d.writes pool rows t) q
 
 leaf-back : (l : Leaf) → leaf_of (leaf_in l) ≡ l
@@ -69,15 +69,8 @@ ended_is modes (code.TheVariants.Fixed n) = refl
 pub begins : {pool rows w : List ℕ} {i core : ℕ} → Holds pool rows w i core → (i ≤ 8192) × (core < 2 ^ 32)
 begins h = (omega (arith, h.inside, h.few), omega (arith, h.within.first, h.inside, h.few))
 
-pub marks-as : {put : Bool} {out out' : List ℕ} {i core : ℕ} {r : Progress} {l l₁ : ℤ} → l ≡ l₁ → Marks put out out' i core r l → Marks put out out' i core r l₁
+pub marks-as : {put : Bool} {out out' : List ℕ} {i core : ℕ} {r : Result Progress Refusal} {l l₁ : ℤ} → l ≡ l₁ → Marks put out out' i core r l → Marks put out out' i core r l₁
 marks-as e d = rw (← e) d
-
-module _ {put omittable nullable : Bool} {pool rows out out' : List ℕ} {node i core : ℕ} {x : Opening} (o : Opens put omittable nullable pool rows out out' node i core x) where
-  pub opened-gone : {r : Progress} → x ≡ Gone r → OpensGone put omittable nullable pool rows out out' node i core r
-  opened-gone q = subst (λ y. Opens put omittable nullable pool rows out out' node i core y) q o
-
-  pub opened-here : {labelled : Bool} → x ≡ Here labelled → OpensHere put omittable nullable pool rows out out' node i core labelled
-  opened-here q = subst (λ y. Opens put omittable nullable pool rows out out' node i core y) q o
 
 -- ---- the types on the way down
 
@@ -96,10 +89,10 @@ module _ (table w : List ℕ) (left node : ℕ) where
 
 module _ (how : Pass) (table pool rows out w : List ℕ) (i core node : ℕ) (holds : Holds pool rows w i core) where
   module _ {omittable nullable : Bool} (z : nullable ≡ eqb (node_at table node).kind NULLABLE) where
-    pub value_gone : {out' : List ℕ} {r : Progress} → OpensGone how.put omittable nullable pool rows out out' node i core r → WritesNode how table pool rows out w core out' w r i node omittable
+    pub value_gone : {out' : List ℕ} {r : Result Progress Refusal} → OpensGone how.put omittable nullable pool rows out out' node i core r → WritesNode how table pool rows out w core out' w r i node omittable
     value_gone o = record { writes = λ modes s v h. (o.writes (held_in table) v (nullable-is table w node v h ∙ sym z) (top-is _ _ _ _ node v h)).writes modes (held_in table) w holds }
 
-    pub value-here : {out₁ out' w' : List ℕ} {own : ℕ} {labelled : Bool} {r : Progress} → OpensHere how.put omittable nullable pool rows out out₁ node i core labelled → own ≡ below nullable node
+    pub value-here : {out₁ out' w' : List ℕ} {own : ℕ} {labelled : Bool} {r : Result Progress Refusal} → OpensHere how.put omittable nullable pool rows out out₁ node i core labelled → own ≡ below nullable node
         → WritesWire how table pool rows out₁ w core out' w' r i own node labelled → WritesNode how table pool rows out w core out' w' r i node omittable
     value-here {own = own} o e d = record {
       writes = λ modes s v h.
@@ -111,7 +104,7 @@ module _ (how : Pass) (table pool rows out w : List ℕ) (i core node : ℕ) (ho
   -- ---- by the kind of its own node, where the topmost one is `top`
 
   module _ (top : ℕ) where
-    pub wire-boolean : {out' : List ℕ} {r : Progress} {labelled : Bool} → (node_at table node).kind ≡ BOOLEAN → WritesRow how.put pool rows out out' i core r (fit_truth top (rest_of pool rows i))
+    pub wire-boolean : {out' : List ℕ} {r : Result Progress Refusal} {labelled : Bool} → (node_at table node).kind ≡ BOOLEAN → WritesRow how.put pool rows out out' i core r (fit_truth top (rest_of pool rows i))
         → WritesWire how table pool rows out w core out' w r i node top labelled
     wire-boolean {out'} {r} {labelled} k d = record {
       writes = λ modes s v h. by-boolean _ _ _ _ (λ u. WritesBy how table pool rows out w core out' w r i modes (fit_wire (held_in table) u top labelled)) node v h k
@@ -123,7 +116,7 @@ module _ (how : Pass) (table pool rows out w : List ℕ) (i core node : ℕ) (ho
     array-either u labelled = refl
 
     -- an array has a label of its own
-    pub wire-array : {out' w' : List ℕ} {r : Progress} {labelled : Bool} → (node_at table node).kind ≡ ARRAY → WritesWire how table pool rows out w core out' w' r i node top false → WritesWire how table pool rows out w core out' w' r i node top labelled
+    pub wire-array : {out' w' : List ℕ} {r : Result Progress Refusal} {labelled : Bool} → (node_at table node).kind ≡ ARRAY → WritesWire how table pool rows out w core out' w' r i node top false → WritesWire how table pool rows out w core out' w' r i node top labelled
     wire-array {out'} {w'} {r} {labelled} k d = record {
       writes = λ modes s v h. by-array _ _ _ _ (λ u. IsWire table w node u → WritesBy how table pool rows out w core out' w' r i modes (fit_wire (held_in table) u top labelled)) node v h k
           (λ u t g h₁. along (array-either u labelled) (d.writes modes s (array u) h₁)) h;
@@ -134,17 +127,17 @@ module _ (how : Pass) (table pool rows out w : List ℕ) (i core node : ℕ) (ho
     by-fields k c P v h f = by-record _ _ _ _ P node v h k (λ ws t e g. f ws (sym (c ∙ e)) g)
 
     module _ (labelled : Bool) {count : ℕ} (k : (node_at table node).kind ≡ RECORD) (c : count ≡ (node_at table node).argument) where
-      module _ {out₁ : List ℕ} {r₁ : Progress} (d : WritesRow how.put pool rows out out₁ i core r₁ (fit_record count top labelled (rest_of pool rows i))) where
+      module _ {out₁ : List ℕ} {r₁ : Result Progress Refusal} (d : WritesRow how.put pool rows out out₁ i core r₁ (fit_record count top labelled (rest_of pool rows i))) where
         first_does : (modes : ℕ) (ws : Fields) → field_count ws ≡ count → Writes how.put modes (held_in table) pool rows out w core out₁ w r₁ (fit_record (field_count ws) top labelled (rest_of pool rows i))
         first_does modes ws e = rw e (d.writes modes (held_in table) w holds)
 
-        pub record-not : {r : Progress} {n j : ℕ} → r₁ ≡ Refused n j → r ≡ r₁ → WritesWire how table pool rows out w core out₁ w r i node top labelled
-        record-not q t = rw t (record {
-          writes = λ modes s v h. by-fields k c (λ u. WritesBy how table pool rows out w core out₁ w r₁ i modes (fit_wire (held_in table) u top labelled)) v h
-              (λ ws e g. along (record-first (held_in table) top labelled (rest_of pool rows i) ws) (seqs-not _ (fit_all (held_in table) ws) (first_does modes ws e) q));
-        })
+        pub record-not : {e : Refusal} → r₁ ≡ Err e → WritesWire how table pool rows out w core out₁ w (Err e) i node top labelled
+        record-not {e} q = record {
+          writes = λ modes s v h. by-fields k c (λ u. WritesBy how table pool rows out w core out₁ w (Err e) i modes (fit_wire (held_in table) u top labelled)) v h
+              (λ ws t g. along (record-first (held_in table) top labelled (rest_of pool rows i) ws) (seqs-not _ (fit_all (held_in table) ws) (first_does modes ws t) q));
+        }
 
-        pub record-then : {out' w' : List ℕ} {r : Progress} {i₁ core₁ : ℕ} → r₁ ≡ Done i₁ core₁ → WritesFields how table pool rows out₁ w core₁ out' w' r i₁ (node + 1) count
+        pub record-then : {out' w' : List ℕ} {r : Result Progress Refusal} {n : Progress} → r₁ ≡ Ok n → WritesFields how table pool rows out₁ w n.core out' w' r n.row (node + 1) count
             → WritesWire how table pool rows out w core out' w' r i node top labelled
         record-then {out'} {w'} {r} q f = record {
           writes = λ modes s v h. by-fields k c (λ u. WritesBy how table pool rows out w core out' w' r i modes (fit_wire (held_in table) u top labelled)) v h
@@ -180,23 +173,23 @@ module _ (how : Pass) (table pool rows out w : List ℕ) (i core node : ℕ) (ho
       by_entries : (P : Wire → Type 0) (v : Wire) → IsWire table w node v → ((u : Node) → IsNode table w (node + 1) u → P (array u)) → P v
       by_entries P v h f = by-array _ _ _ _ P node v h k (λ u t g. f u g)
 
-      pub array-none : {out' : List ℕ} → value_in array_row (looked pool rows top i) ≡ none → WritesWire how table pool rows out w core out' w (Refused 42 i) i node top false
+      pub array-none : {out' : List ℕ} → value_in array_row (looked pool rows top i) ≡ none → WritesWire how table pool rows out w core out' w (Err (Unfit i)) i node top false
       array-none {out'} e = record {
-        writes = λ modes s v h. by_entries (λ u. WritesBy how table pool rows out w core out' w (Refused 42 i) i modes (fit_wire (held_in table) u top false)) v h
-            (λ u g. along (array-not pool rows top i (held_in table) false u e) (refuses 42 i));
+        writes = λ modes s v h. by_entries (λ u. WritesBy how table pool rows out w core out' w (Err (Unfit i)) i modes (fit_wire (held_in table) u top false)) v h
+            (λ u g. along (array-not pool rows top i (held_in table) false u e) (refuses (Unfit i)));
       }
 
-      module _ {n : ℕ} {out₁ : List ℕ} {r₁ : Progress} (e : value_in array_row (looked pool rows top i) ≡ some n) (b : n < 2 ^ 64) (d : Marks how.put out out₁ i core r₁ (integer n)) where
+      module _ {n : ℕ} {out₁ : List ℕ} {r₁ : Result Progress Refusal} (e : value_in array_row (looked pool rows top i) ≡ some n) (b : n < 2 ^ 64) (d : Marks how.put out out₁ i core r₁ (integer n)) where
         mark-does : (modes : ℕ) → Writes how.put modes (held_in table) pool rows out w core out₁ w r₁ (ok (mark (integer n) ∷ [], rest_of pool rows (i + 1)))
         mark-does modes = (d.writes pool rows (value_there pool rows top i array_row e)).writes modes (held_in table) w holds
 
-        pub array-refused : {r : Progress} {m j : ℕ} → r₁ ≡ Refused m j → r ≡ r₁ → WritesWire how table pool rows out w core out₁ w r i node top false
-        array-refused q t = rw t (record {
-          writes = λ modes s v h. by_entries (λ u. WritesBy how table pool rows out w core out₁ w r₁ i modes (fit_wire (held_in table) u top false)) v h
+        pub array-refused : {m : Refusal} → r₁ ≡ Err m → WritesWire how table pool rows out w core out₁ w (Err m) i node top false
+        array-refused {m} q = record {
+          writes = λ modes s v h. by_entries (λ u. WritesBy how table pool rows out w core out₁ w (Err m) i modes (fit_wire (held_in table) u top false)) v h
               (λ u g. along (array-value u e b ∙ any-label n u) (seqs-not _ (entries_of n u) (mark-does modes) q));
-        })
+        }
 
-        pub array-then : {out' w' : List ℕ} {r : Progress} {i₁ core₁ : ℕ} → r₁ ≡ Done i₁ core₁ → WritesEntries how table pool rows out₁ w core₁ out' w' r i₁ (node + 1) n
+        pub array-then : {out' w' : List ℕ} {r : Result Progress Refusal} {m : Progress} → r₁ ≡ Ok m → WritesEntries how table pool rows out₁ w m.core out' w' r m.row (node + 1) n
             → WritesWire how table pool rows out w core out' w' r i node top false
         array-then {out'} {w'} {r} q f = record {
           writes = λ modes s v h. by_entries (λ u. WritesBy how table pool rows out w core out' w' r i modes (fit_wire (held_in table) u top false)) v h
@@ -205,7 +198,7 @@ module _ (how : Pass) (table pool rows out w : List ℕ) (i core node : ℕ) (ho
 
     -- ---- a BLOCK
 
-    module _ {out' w' : List ℕ} {r : Progress} {labelled numbered : Bool} {key : ℕ} {l : code.Leaf} where
+    module _ {out' w' : List ℕ} {r : Result Progress Refusal} {labelled numbered : Bool} {key : ℕ} {l : code.Leaf} where
       pub block_writes : (node_at table node).kind ≡ BLOCK → key ≡ (node_at table node).argument → l ≡ leaf_in (tables.leaf_of (node_at table (node + 1))) → numbered ≡ (deduplicate (node_at table node) && how.numbers)
           → WritesText how numbered (is_judged l && how.ends) key pool rows out w core out' w' r (fit_leaf key (leaf_of l) top labelled (rest_of pool rows i)) → WritesWire how table pool rows out w core out' w' r i node top labelled
       unfolding fit_wire is_numbered

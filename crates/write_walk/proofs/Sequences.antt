@@ -5,6 +5,8 @@ use mathlib.Core.List.{List}
 use Prim.Native.Nat.{ℕ, suc, ◌+◌, ◌-◌, ◌≤◌}
 use native.Mathlib.Omega.{arith}
 use lib.ListN.{length}
+use Rattle.std.specs.Prelude.{Result, Ok, Err}
+use Rattle.format.specs.declared.refusal.Refusal.{Refusal}
 use Rattle.format.specs.Table.{node_at, omittable, Node, Fields, field, no_field}
 use Rattle.format.specs.Read.{field_count}
 use Rattle.format.specs.Write.{fit_all}
@@ -15,8 +17,7 @@ use Rattle.store.specs.Same.{Same, same_self, same_then}
 use Rattle.wire_types.specs.Typed.{Sized, held_in, IsNode, AreFields, FitsNode, FitFields}
 use Rattle.wire_types.specs.Nodes.{node_kept, First, first-of, first-deep}
 use Rattle.write_row.specs.declared.Progress.{Progress}
-use Rattle.write_row.specs.declared.Progress.TheVariants.{Done, Refused}
-use Rattle.write_row.specs.declared.Pass.{Pass}
+use Rattle.write_bytes.specs.declared.Pass.{Pass}
 use Rattle.write_row.specs.Rest.{rest_of}
 use Rattle.write_row.specs.Writes.{Holds}
 use Rattle.write_row.specs.Laws.{along, done-holds, done-same, seqs, seqs-not}
@@ -70,30 +71,30 @@ module _ (how : Pass) (table pool rows out₀ w₀ : List ℕ) (o₀ : Bool) (le
           record { type = y.first; is = node_kept table w₀ w node y.first whole x.same.at y.is; deep = (y.deep g.first.deep g.others.deep).0; most = g.first.most }
 
     -- a value of it
-    module _ {out₁ w₁ : List ℕ} {r : Progress} (d : WritesNode how table pool rows out w core out₁ w₁ r i node o) where
+    module _ {out₁ w₁ : List ℕ} {r : Result Progress Refusal} (d : WritesNode how table pool rows out w core out₁ w₁ r i node o) where
       module _ {v : Node} {vs : Fields} (y : LeftAt v vs out w k node o i core) where
         value-does : (modes : ℕ) → Suits how modes → WritesBy how table pool rows out w core out₁ w₁ r i modes (fit_value (held_in table) o y.first)
         value-does modes s = d.writes modes s y.first (node_kept table w₀ w node y.first whole x.same.at y.is)
 
-      pub sequence-not : {r' : Progress} {n j : ℕ} → r ≡ Refused n j → r' ≡ r → WritesSequence how table pool rows out₀ w₀ core₀ out₁ w₁ r' i₀ node₀ o₀ count
-      sequence-not q t = rw t (record {
+      pub sequence-not : {n : Refusal} → r ≡ Err n → WritesSequence how table pool rows out₀ w₀ core₀ out₁ w₁ (Err n) i₀ node₀ o₀ count
+      sequence-not q = record {
         writes = λ modes s v a vs b e.
             let y = x.rest v a vs b e in
             (y.leads modes s).onward (along (all-some (held_in table) o y.first y.others _) (seqs-not _ (fit_all (held_in table) y.others) (value-does y modes s) q));
-      })
+      }
 
       -- the last one
-      pub sequence-end : {i₁ core₁ : ℕ} → k - 1 ≡ 0 → r ≡ Done i₁ core₁ → WritesSequence how table pool rows out₀ w₀ core₀ out₁ w₁ (Done i₁ core₁) i₀ node₀ o₀ count
-      sequence-end z q = rw (← q) (record {
+      pub sequence-end : k - 1 ≡ 0 → WritesSequence how table pool rows out₀ w₀ core₀ out₁ w₁ r i₀ node₀ o₀ count
+      sequence-end z = record {
         writes = λ modes s v a vs b e.
             let y = x.rest v a vs b e in
             let n : field_count y.others ≡ 0 = omega (arith, y.counted) in
             (y.leads modes s).onward (along (all_one (held_in table) o y.first y.others _ n) (value-does y modes s));
-      })
+      }
 
-      module _ {i₁ core₁ : ℕ} (g : FitSequence table w₀ left node₀ count) (z : k - 1 ≡ 0 → ⊥) (q : r ≡ Done i₁ core₁) where
-        done : Holds pool rows w₁ i₁ core₁ × Same w₀ w₁
-        done =
+      module _ {n : Progress} (g : FitSequence table w₀ left node₀ count) (z : k - 1 ≡ 0 → ⊥) (q : r ≡ Ok n) where
+        kept : Holds pool rows w₁ n.row n.core × Same w₀ w₁
+        kept =
             let (modes, s) = some-modes how in
             let a = value-does (left_at g) modes s in
             (done-holds a q, same_then x.same (done-same a q))
@@ -101,12 +102,12 @@ module _ (how : Pass) (table pool rows out₀ w₀ : List ℕ) (o₀ : Bool) (le
         module _ {node₁ : ℕ} (e : node₁ ≡ word w₁ node) where
           -- the next one stands where this one ends
           next-node : {v : Node} {vs : Fields} (y : LeftAt v vs out w k node o i core) → node₁ ≡ node + size y.first
-          next-node y = e ∙ (node-top _ _ _ _ node y.first (node_kept table w₀ w₁ node y.first whole done.1.at y.is)).after
+          next-node y = e ∙ (node-top _ _ _ _ node y.first (node_kept table w₀ w₁ node y.first whole kept.1.at y.is)).after
 
           first_next : {v : Node} {vs : Fields} (y : LeftAt v vs out w k node o i core) → First table w₀ node₁ y.others
-          first_next y = first-of table w₀ node₁ y.others (subst (λ n. AreFields table w₀ n y.others) (sym (next-node y)) y.are) (λ n. z (omega (arith, y.counted)))
+          first_next y = first-of table w₀ node₁ y.others (subst (λ j. AreFields table w₀ j y.others) (sym (next-node y)) y.are) (λ e. z (omega (arith, y.counted)))
 
-          left-again : {v : Node} {vs : Fields} (y : LeftAt v vs out w k node o i core) → First table w₀ node₁ y.others → LeftAt v vs out₁ w₁ (k - 1) node₁ (omittable (node_at table node₁)) i₁ core₁
+          left-again : {v : Node} {vs : Fields} (y : LeftAt v vs out w k node o i core) → First table w₀ node₁ y.others → LeftAt v vs out₁ w₁ (k - 1) node₁ (omittable (node_at table node₁)) n.row n.core
           left-again y u =
               let b = first-deep u in
               record {
@@ -118,16 +119,16 @@ module _ (how : Pass) (table pool rows out₀ w₀ : List ℕ) (o₀ : Bool) (le
                 deep = λ d₁ d₂. let f = y.deep d₁ d₂ in (omega (arith, b.0), omega (arith, b.1));
                 leads = λ modes s. record {
                   onward = λ d₂. (y.leads modes s).onward (along (all-some (held_in table) o y.first y.others _)
-                      (seqs _ (fit_all (held_in table) y.others) (value-does y modes s) q (along (ap (λ ws. fit_all (held_in table) ws (rest_of pool rows i₁)) u.splits) d₂)));
+                      (seqs _ (fit_all (held_in table) y.others) (value-does y modes s) q (along (ap (λ ws. fit_all (held_in table) ws (rest_of pool rows n.row)) u.splits) d₂)));
                 };
               }
 
-          pub sequence-again : {o₁ : Bool} → o₁ ≡ omittable (node_at table node₁) → length out₁ ≡ length out → length w₁ ≡ length w → SequenceAt out₁ w₁ (k - 1) node₁ o₁ i₁ core₁
+          pub sequence-again : {o₁ : Bool} → o₁ ≡ omittable (node_at table node₁) → length out₁ ≡ length out → length w₁ ≡ length w → SequenceAt out₁ w₁ (k - 1) node₁ o₁ n.row n.core
           sequence-again t e₁ e₂ = rw t (record {
             lent = e₁ ∙ x.lent;
             worked = e₂ ∙ x.worked;
-            holds = done.0;
-            same = done.1;
+            holds = kept.0;
+            same = kept.1;
             onward = omega (arith, x.onward, next-node (left_at g));
             some = z;
             rest = λ v a vs b c. let y = x.rest v a vs b c in left-again y (first_next y);
@@ -135,7 +136,7 @@ module _ (how : Pass) (table pool rows out₀ w₀ : List ℕ) (o₀ : Bool) (le
 
 -- ---- one alone, and the fields of a record
 
-module _ {how : Pass} {table pool rows out w out' w' : List ℕ} {core i node : ℕ} {r : Progress} where
+module _ {how : Pass} {table pool rows out w out' w' : List ℕ} {core i node : ℕ} {r : Result Progress Refusal} where
   pub alone-writes : {o : Bool} → WritesSequence how table pool rows out w core out' w' r i node o 1 → WritesNode how table pool rows out w core out' w' r i node o
   unfolding HasFields field_count
   alone-writes {o} x = record { writes = λ modes s v h. along (sym (all_one (held_in table) o v no_field _ refl)) (x.writes modes s v h no_field tt refl) }

@@ -2,24 +2,26 @@
 use mathlib.Core.Path.{◌≡◌, refl, sym, ap, ◌∙◌, subst, subst₂}
 use mathlib.Core.Bool.{Bool, true, false}
 use mathlib.Core.List.{List, [], ◌++◌, append-nil}
-use Prim.Native.Nat.{ℕ, ◌-◌, ◌≤◌}
+use Prim.Native.Nat.{ℕ, ◌+◌, ◌-◌, ◌≤◌}
 use native.Mathlib.Omega.{arith}
 use lib.ListN.{length}
+use Rattle.std.specs.Prelude.{Result, Ok, Err}
 use Rattle.format.specs.Answer.{Answer, ok, refuse, ◌>>=◌}
+use Rattle.format.specs.declared.refusal.Refusal.{Refusal}
 use Rattle.format.specs.Table.{node_at, omittable, Node, Fields, field, Held}
 use Rattle.format.specs.Read.{field_count}
 use Rattle.format.specs.Write.{Event, Rest, Fit, fit_entries, fit_all}
 use Rattle.laws.specs.Facts.{by_bool}
-use Rattle.wire_types.specs.Typed.{Sized, held_in, FitsNode}
+use Rattle.wire_types.specs.Typed.{Sized, held_in, FitsNode, FitsWire}
 use Rattle.wire_types.specs.Nodes.{fits_kept, first-of, first-deep}
-use Rattle.wire_types.specs.Run.{FitRun, absent_in, next_in, absent-is, next-is}
+use Rattle.wire_types.specs.Run.{FitRun, absent_in, next_in, absent-is, next-is, fields_fit, entry-fits}
 use Rattle.write_row.specs.declared.Progress.{Progress}
-use Rattle.write_row.specs.declared.Progress.TheVariants.{Done, Refused}
-use Rattle.write_row.specs.declared.Pass.{Pass}
+use Rattle.write_bytes.specs.declared.Pass.{Pass}
 use Rattle.write_row.specs.Rest.{rest_of}
-use Rattle.write_row.specs.Writes.{Holds}
+use Rattle.write_row.specs.Writes.{done, Holds}
 use Rattle.write_row.specs.Laws.{along}
 use Rattle.write_row.specs.Opens.{fit_value}
+use Rattle.write_walk.specs.Own.{IsHolder}
 use Rattle.write_walk.specs.Pass.{WritesNode, WritesFields, WritesEntries, WritesValues}
 use Rattle.write_walk.proofs.Loops.{node-as, all_none, all-some, EntriesAt, entries-begin, entries-not, entries-again, entries-end, FieldsAt, fields-begin, fields-fits, fields-not, fields-again, fields-end}
 
@@ -52,21 +54,21 @@ module _ (how : Pass) (table pool rows out₀ w₀ : List ℕ) (node₀ : ℕ) (
         (λ e. fields-fits how table pool rows out₀ w₀ node₀ count i₀ core₀ out w k node i core (x.fields e) whole (g.fields e) z)
 
     -- a value of it
-    module _ {out₁ w₁ : List ℕ} {r : Progress} {o : Bool} (z : k ≡ 0 → ⊥) (t : o ≡ absent_in repeated (node_at table node)) (y : WritesNode how table pool rows out w core out₁ w₁ r i node o) where
+    module _ {out₁ w₁ : List ℕ} {r : Result Progress Refusal} {o : Bool} (z : k ≡ 0 → ⊥) (t : o ≡ absent_in repeated (node_at table node)) (y : WritesNode how table pool rows out w core out₁ w₁ r i node o) where
       entry : repeated ≡ true → WritesNode how table pool rows out w core out₁ w₁ r i node₀ false
       entry e = subst₂ (λ (j : ℕ) (b : Bool). WritesNode how table pool rows out w core out₁ w₁ r i j b) (x.stays e) (absent-is e (node_at table node) t) y
 
-      pub values-not : {r' : Progress} {n j : ℕ} → r ≡ Refused n j → r' ≡ r → WritesValues how table pool rows out₀ w₀ core₀ out₁ w₁ r' i₀ node₀ repeated count
-      values-not q u = record {
-        entries = λ e. entries-not how table pool rows out₀ w₀ node₀ count i₀ core₀ out w k i core (x.entries e) whole z (entry e) q u;
-        fields = λ e. fields-not how table pool rows out₀ w₀ node₀ count i₀ core₀ out w k node i core (x.fields e) whole (node-as (absent-is e (node_at table node) t) y) z q u;
+      pub values-not : {n : Refusal} → r ≡ Err n → WritesValues how table pool rows out₀ w₀ core₀ out₁ w₁ (Err n) i₀ node₀ repeated count
+      values-not q = record {
+        entries = λ e. entries-not how table pool rows out₀ w₀ node₀ count i₀ core₀ out w k i core (x.entries e) whole z (entry e) q;
+        fields = λ e. fields-not how table pool rows out₀ w₀ node₀ count i₀ core₀ out w k node i core (x.fields e) whole (node-as (absent-is e (node_at table node) t) y) z q;
       }
 
-      pub values-again : {left next i₁ core₁ : ℕ} → FitRun table w₀ left node₀ repeated count → next ≡ next_in repeated node w → length out₁ ≡ length out → length w₁ ≡ length w → r ≡ Done i₁ core₁
-          → ValuesAt how table pool rows out₀ w₀ node₀ repeated count i₀ core₀ out₁ w₁ (k - 1) next i₁ core₁
-      values-again {left} {next} {i₁} {core₁} g b e₁ e₂ q =
-          let es : repeated ≡ true → EntriesAt how table pool rows out₀ w₀ node₀ count i₀ core₀ out₁ w₁ (k - 1) i₁ core₁ = λ e. entries-again how table pool rows out₀ w₀ node₀ count i₀ core₀ out w k i core (x.entries e) whole (g.entries e) z e₁ e₂ (entry e) q in
-          let fs : repeated ≡ false → FieldsAt how table pool rows out₀ w₀ node₀ count i₀ core₀ out₁ w₁ (k - 1) next i₁ core₁ = λ e. fields-again how table pool rows out₀ w₀ node₀ count i₀ core₀ out w k node i core (x.fields e) whole (node-as (absent-is e (node_at table node) t) y) (g.fields e) z q (next-is e node w b) e₁ e₂ in
+      pub values-again : {left next : ℕ} {n : Progress} → FitRun table w₀ left node₀ repeated count → next ≡ next_in repeated node w → length out₁ ≡ length out → length w₁ ≡ length w → r ≡ Ok n
+          → ValuesAt how table pool rows out₀ w₀ node₀ repeated count i₀ core₀ out₁ w₁ (k - 1) next n.row n.core
+      values-again {left} {next} {n} g b e₁ e₂ q =
+          let es : repeated ≡ true → EntriesAt how table pool rows out₀ w₀ node₀ count i₀ core₀ out₁ w₁ (k - 1) n.row n.core = λ e. entries-again how table pool rows out₀ w₀ node₀ count i₀ core₀ out w k i core (x.entries e) whole (g.entries e) z e₁ e₂ (entry e) q in
+          let fs : repeated ≡ false → FieldsAt how table pool rows out₀ w₀ node₀ count i₀ core₀ out₁ w₁ (k - 1) next n.row n.core = λ e. fields-again how table pool rows out₀ w₀ node₀ count i₀ core₀ out w k node i core (x.fields e) whole (node-as (absent-is e (node_at table node) t) y) (g.fields e) z q (next-is e node w b) e₁ e₂ in
           record {
             lent = e₁ ∙ x.lent;
             worked = e₂ ∙ x.worked;
@@ -77,7 +79,7 @@ module _ (how : Pass) (table pool rows out₀ w₀ : List ℕ) (node₀ : ℕ) (
             fields = fs;
           }
 
-    pub values-end : k ≡ 0 → WritesValues how table pool rows out₀ w₀ core₀ out w (Done i core) i₀ node₀ repeated count
+    pub values-end : k ≡ 0 → WritesValues how table pool rows out₀ w₀ core₀ out w (done i core) i₀ node₀ repeated count
     values-end z = record {
       entries = λ e. entries-end how table pool rows out₀ w₀ node₀ count i₀ core₀ out w k i core (x.entries e) whole z;
       fields = λ e. fields-end how table pool rows out₀ w₀ node₀ count i₀ core₀ out w k node i core (x.fields e) whole z;
@@ -85,7 +87,7 @@ module _ (how : Pass) (table pool rows out₀ w₀ : List ℕ) (node₀ : ℕ) (
 
 -- ---- none, and one
 
-pub no_fields : (how : Pass) (table pool rows out w : List ℕ) (node count i core : ℕ) → Holds pool rows w i core → Sized table → count ≡ 0 → WritesFields how table pool rows out w core out w (Done i core) i node count
+pub no_fields : (how : Pass) (table pool rows out w : List ℕ) (node count i core : ℕ) → Holds pool rows w i core → Sized table → count ≡ 0 → WritesFields how table pool rows out w core out w (done i core) i node count
 no_fields how table pool rows out w node count i core h whole z = fields-end how table pool rows out w node count i core out w count node i core (fields-begin how table pool rows out w node count i core h) whole z
 
 -- a value, and nothing after it
@@ -104,7 +106,7 @@ all_one held o v vs r z =
     let n : (t : Rest) → fit_all held vs t ≡ ok ([], t) = λ t. all_none held vs t z in
     all-some held o v vs r ∙ simp n (alone (fit_value held o v r))
 
-module _ {how : Pass} {table pool rows out w out' w' : List ℕ} {core i node : ℕ} {r : Progress} where
+module _ {how : Pass} {table pool rows out w out' w' : List ℕ} {core i node : ℕ} {r : Result Progress Refusal} where
   pub one_entry : WritesValues how table pool rows out w core out' w' r i node true 1 → WritesNode how table pool rows out w core out' w' r i node false
   one_entry x = record { writes = λ modes s v h. along (sym (entries-one _ _)) ((x.entries refl).writes modes s v h) }
 
@@ -118,3 +120,9 @@ module _ {how : Pass} {table pool rows out w out' w' : List ℕ} {core i node : 
         let z : field_count u.others ≡ 0 = omega (arith, (first-deep u).2) in
         along (ap (λ vs. fit_all (held_in table) vs (rest_of pool rows i)) u.splits ∙ all_one (held_in table) _ u.first u.others _ z) (x.writes modes s u.first u.is);
   }
+
+-- ---- what a record or an array holds
+
+pub holds-run : {table w : List ℕ} {left node count : ℕ} (array : Bool) → IsHolder table node array → (array ≡ false → count ≡ (node_at table node).argument) → FitsWire table w left node → FitRun table w (left - 1) (node + 1) array count
+holds-run {table} {w} {left} {node} true k c f = entry-fits table w left node k f
+holds-run {table} {w} {left} {node} false k c f = fields_fit table w left node k (c refl) f

@@ -5,11 +5,12 @@ use mathlib.Core.List.{List}
 use Prim.Native.Nat.{ℕ, ◌+◌, ◌-◌}
 use native.Mathlib.Omega.{arith}
 use lib.Dec.{eqb}
+use Rattle.std.specs.Prelude.{Ok, Err}
+use Rattle.format.specs.declared.refusal.Refusal.{Refusal}
 use Rattle.format.specs.Table.{node_at, omittable, RECORD, NULLABLE}
 use Rattle.wire_types.specs.Typed.{Sized, FitsNode}
 use Rattle.wire_types.specs.Run.{fields_fit}
-use Rattle.write_row.specs.declared.Progress.{Progress}
-use Rattle.write_row.specs.declared.Progress.TheVariants.{Done}
+use Rattle.write_row.specs.Writes.{done}
 use Rattle.write_walk.specs.declared.start.Start.TheVariants.{Values}
 use Rattle.write_walk.specs.Sequence.{FitSequence}
 use Rattle.write_walk.specs.Own as own
@@ -21,7 +22,7 @@ use Rattle.write_walk.proofs.Descents.{plain}
 use Rattle.write_walk.proofs.Sequences.{sequence-as, alone-fits, alone-writes, fields-sequence, fields-write}
 
 module _ (put : Bool) (table pool rows out : List ℕ) (core i node : ℕ) where
-  pub start-alone : (o : Bool) → Starts put table pool rows out core i node o out (Values node 1 o i core)
+  pub start-alone : (o : Bool) → Starts put table pool rows out core i node o out (Ok (Values node 1 o (record { row = i; core = core })))
   start-alone o = record { behind = omega arith; remaining = λ how e w h f. record { holds = h; fits = alone-fits (path-as (omega arith) f); whole = λ y. alone-writes y } }
 
   -- a record with nothing in front of it, by its own row
@@ -33,18 +34,18 @@ module _ (put : Bool) (table pool rows out : List ℕ) (core i node : ℕ) where
     start_fits c w {left} z f = fields-sequence z ((fields_fit table w left node k c (own-fits table w left node (sym no_front) refl refl f)).fields refl)
 
     module _ {out₁ : List ℕ} where
-      pub start-not : {r r₁ : Progress} → own.Stops put table pool rows out core i node node false false out₁ r₁ → r ≡ r₁ → Ends put table pool rows out core i node false out₁ r
-      start-not s t = rw t (record { writes = λ how e w h f. plain how table pool rows out w i core _ node h f whole no_front (s.writes how e w h) })
+      pub start-not : {n : Refusal} → own.Stops put table pool rows out core i node node false false out₁ n → Starts put table pool rows out core i node false out₁ (Err n)
+      start-not s = record { writes = λ how e w h f. plain how table pool rows out w i core _ node h f whole no_front (s.writes how e w h) }
 
       module _ {count i₁ core₁ : ℕ} (m : own.Makes put table pool rows out core i node node false false out₁ count i₁ core₁) where
-        pub start_none : count ≡ 0 → Ends put table pool rows out core i node false out₁ (Done i₁ core₁)
+        pub start_none : count ≡ 0 → Ends put table pool rows out core i node false out₁ (done i₁ core₁)
         start_none z = record {
           writes = λ how e w h f.
               let o = m.remaining how e w h in
               plain how table pool rows out w i core _ node h f whole no_front (o.fields refl (no_fields how table pool rows out₁ w (node + 1) count i₁ core₁ o.holds whole z));
         }
 
-        pub start-fields : {o : Bool} → (count ≡ 0 → ⊥) → o ≡ omittable (node_at table (node + 1)) → Starts put table pool rows out core i node false out₁ (Values (node + 1) count o i₁ core₁)
+        pub start-fields : {o : Bool} → (count ≡ 0 → ⊥) → o ≡ omittable (node_at table (node + 1)) → Starts put table pool rows out core i node false out₁ (Ok (Values (node + 1) count o (record { row = i₁; core = core₁ })))
         start-fields z t = rw t (record {
           behind = omega arith;
           remaining = λ how e w h f.

@@ -1,15 +1,13 @@
 -- What each function of a pass has done: what the rows write, for the type that the table has at its node.
-use Rattle.std.specs.Prelude.{◌≡◌, Bool, true, false, not, List, ℕ}
+use Rattle.std.specs.Prelude.{◌≡◌, Result, Bool, true, false, not, List, ℕ}
 use Rattle.format.specs.Modes.{inline_everything, null_terminated_strings, no_deduplication}
 use Rattle.format.specs.Table.{Wire, Node, Fields}
 use Rattle.format.specs.Read.{field_count}
 use Rattle.format.specs.Write.{Fit, fit_entries, fit_wire, fit_all}
 use Rattle.wire_types.specs.Typed.{held_in, IsNode, IsWire, AreFields}
 use Rattle.write_row.specs.declared.Progress.{Progress}
-use Rattle.write_row.specs.declared.Progress.TheVariants.{Done}
-use Rattle.write_row.specs.declared.Pass.{Pass}
-use Rattle.write_row.specs.declared.Opening.{Opening}
-use Rattle.write_row.specs.declared.Opening.TheVariants.{Gone, Here}
+use Rattle.format.specs.declared.refusal.Refusal.{Refusal}
+use Rattle.write_bytes.specs.declared.Pass.{Pass}
 use Rattle.write_row.specs.Rest.{rest_of}
 use Rattle.write_row.specs.Writes.{Writes}
 use Rattle.write_row.specs.Opens.{fit_value}
@@ -21,7 +19,7 @@ pub record Suits (how : Pass) (modes : ℕ) : Type 0 where
   pub ends : null_terminated_strings modes ≡ how.ends
 
 -- The buffers before and after a step that began at row i with the core at `core`.
-module _ (how : Pass) (table pool rows out w : List ℕ) (core : ℕ) (out' w' : List ℕ) (r : Progress) (i : ℕ) where
+module _ (how : Pass) (table pool rows out w : List ℕ) (core : ℕ) (out' w' : List ℕ) (r : Result Progress Refusal) (i : ℕ) where
   -- it has written what f writes
   abbrev pub WritesBy : ℕ → Fit → Type 0
   WritesBy modes f = Writes how.put modes (held_in table) pool rows out w core out' w' r (f (rest_of pool rows i))
@@ -44,8 +42,3 @@ module _ (how : Pass) (table pool rows out w : List ℕ) (core : ℕ) (out' w' :
     pub record WritesValues (repeated : Bool) (count : ℕ) : Type 0 where
       pub entries : repeated ≡ true → WritesEntries count
       pub fields : repeated ≡ false → WritesFields count
-
--- what has been done of a value so far
-abbrev pub so_far : Opening → ℕ → ℕ → Progress
-so_far (Gone r) i core = r
-so_far (Here labelled) i core = Done i core

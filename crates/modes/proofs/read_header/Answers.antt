@@ -18,11 +18,11 @@ returns-then-w-eq1 c =
 pub returns-then-are_allowed : goal.returns-then-are_allowed
 unfolding read_header need_at ◌>>◌
 returns-then-are_allowed c =
-    let test : are_allowed (c.args.b / 2) ≡ true = sym c.are_allowed.ensures ∙ c.if-are_allowed.true in
-    rw (eq-eqb (c.args.b % 2) 0 (omega arith), test)
+    let test : are_allowed (c.args.b / 2) ≡ true = rw c.from-w.ensures at (sym c.are_allowed.ensures ∙ c.if-are_allowed.true) in
+    rw (eq-eqb (c.args.b % 2) 0 (omega arith), test, c.from-w.ensures)
 
 pub returns-else-are_allowed : goal.returns-else-are_allowed
 unfolding read_header need_at ◌>>◌
 returns-else-are_allowed c =
-    let test : are_allowed (c.args.b / 2) ≡ false = sym c.are_allowed.ensures ∙ c.if-are_allowed.false in
+    let test : are_allowed (c.args.b / 2) ≡ false = rw c.from-w.ensures at (sym c.are_allowed.ensures ∙ c.if-are_allowed.false) in
     rw (eq-eqb (c.args.b % 2) 0 (omega arith), test)

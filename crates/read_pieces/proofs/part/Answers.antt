@@ -7,11 +7,11 @@ use Rattle.read_pieces.proofs.part.Goals as goal
 pub loop-core-init : goal.loop-core-init
 loop-core-init c = first
 
-pub returns-in_default : goal.returns-in_default
-returns-in_default c = reached-bad c.args.m.now c.loop-core.invariant c.in_default.ensures
+pub returns-in_err-core : goal.returns-in_err-core
+returns-in_err-core c = rw c.from_residual.ensures (reached-bad c.args.m.now c.loop-core.invariant c.in_err-core.ensures)
 
 pub returns-then-next-m : goal.returns-then-next-m
-returns-then-next-m c = reached-found c.args.m.now c.in-Block.core c.loop-core.invariant c.in-Block.ensures c.if-next-m.true
+returns-then-next-m c = reached-found c.args.m.now c.in_ok-core.core c.loop-core.invariant c.in_ok-core.ensures c.if-next-m.true
 
 pub loop-core-preserved : goal.loop-core-preserved
-loop-core-preserved c = next (reading_of c.in-Block.core) c.loop-core.invariant c.in-Block.ensures (let x = c.in-Block.ensures in omega arith)
+loop-core-preserved c = next (reading_of c.in_ok-core.core) c.loop-core.invariant c.in_ok-core.ensures (let x = c.in_ok-core.ensures in omega arith)

@@ -1,10 +1,6 @@
 -- `read_walk::root` meets its contract: one entry.
 use Rattle.read_walk.proofs.Several.{one_entry}
-use Rattle.wire_types.specs.Run.{run-entries}
 use Rattle.read_walk.proofs.root.Goals as goal
-
-pub values-requires : goal.values-requires
-values-requires c = (c.requires.0, c.requires.1, c.requires.2, run-entries c.requires.3)
 
 pub returns : goal.returns
 returns c = one_entry c.values.ensures

@@ -2,13 +2,10 @@
 use mathlib.Core.Path.{sym, ◌∙◌}
 use native.Mathlib.Omega.{arith}
 use lib.ListN.{length}
-use Rattle.format.specs.Answer.{◌>>=◌}
-use Rattle.rows.specs.Seen.{seen, seen_under, RightCase}
 use Rattle.rows.proofs.Laws.{look-small, look-large}
 use Rattle.rows.proofs.look.Goals as goal
 
 pub returns-then-node_at : goal.returns-then-node_at
-unfolding seen seen_under RightCase ◌>>=◌
 returns-then-node_at c = record { result_value = sym (look-large c.args.rows.now (length c.args.bytes.now) c.args.i (omega (arith, c.node_at.ensures, c.if-node_at.true))); right_case = tt }
 
 pub returns : goal.returns

@@ -15,5 +15,6 @@ returns-in_default c = sym (part_none c.args.bytes.now _ (sym (ap place c.in_def
 pub returns : goal.returns
 unfolding part
 returns c =
-    let e : c.in-At.start + c.in-At.size - c.in-At.start ≡ c.in-At.size = omega arith in
-    ap (λ (n : ℕ). take n (drop c.in-At.start c.args.bytes.now)) e ∙ sym (part-some c.args.bytes.now _ (sym (ap place c.in-At.is) ∙ c.place_at.ensures.result_value))
+    let p = c.in-Some.field-0 in
+    let e : p.start + p.size - p.start ≡ p.size = omega arith in
+    ap (λ (n : ℕ). take n (drop p.start c.args.bytes.now)) e ∙ sym (part-some c.args.bytes.now _ c.in-Some.ensures.result_value)

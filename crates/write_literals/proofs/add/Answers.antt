@@ -1,4 +1,5 @@
 -- `write_literals::add` meets its contract.
+use mathlib.Core.Path.{refl}
 use native.Mathlib.Omega.{arith}
 use Rattle.write_literals.proofs.Linking.{few-enough, where-at, keep-in, keep-is}
 use Rattle.write_literals.proofs.add.Goals as goal
@@ -22,4 +23,4 @@ write-requires c =
 pub returns : goal.returns
 returns c =
     let tl = (rw c.bucket-b.ensures.0 at c.tail-at.ensures) in
-    keep-is c.args.work.now c.requires.0 c.args.key (record { first = c.args.first; second = c.args.second }) c.requires.1 c.requires.2 c.total-g.ensures.0 c.count-n.ensures.0 tl c.wide.ensures.0 (rw c.bucket-b.ensures.0 at c.side.ensures.0) c.side.ensures.1 c.relinked-link.ensures.0 c.write.ensures
+    keep-is c.args.work.now c.requires.0 c.args.key (record { first = c.args.first; second = c.args.second }) c.requires.1 c.requires.2 c.total-g.ensures.0 c.count-n.ensures.0 tl refl (rw c.bucket-b.ensures.0 at c.side.ensures.0) c.side.ensures.1 c.relinked-link.ensures.0 c.write.ensures

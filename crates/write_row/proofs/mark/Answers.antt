@@ -4,8 +4,5 @@ use mir.Syntax.{w64}
 use mir.ValLaws.{to_z-of_z}
 use Rattle.write_row.proofs.mark.Goals as goal
 
-pub put_label-requires : goal.put_label-requires
-put_label-requires c = c.requires.1
-
 pub returns : goal.returns
 returns c = marks-by (to_z-of_z w64 c.args.l c.ranges.l) c.put_label.ensures c.next.ensures

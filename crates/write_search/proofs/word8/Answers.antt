@@ -4,4 +4,4 @@ use Rattle.write_search.proofs.Hashing.{word8-is}
 use Rattle.write_search.proofs.word8.Goals as goal
 
 pub returns : goal.returns
-returns c = (word8-is c.args.pool.now c.args.i c.word4.ensures.0 c.word4-2.ensures.0, omega (arith, c.word4.ensures.1, c.word4-2.ensures.1))
+returns c = (word8-is c.args.pool.now c.args.i (omega (arith, c.from_le_bytes.ensures)), c.from_le_bytes.type_inv)

@@ -1,11 +1,7 @@
 -- `label::cursor::last_byte` meets its contract. The loop's invariant: the bytes from `at` to i, nine at most, each say that more follow.
--- The measure is what is left before `end`.
 use Rattle.std.proofs.Common.{◌+◌, arith, rules}
-use Rattle.label.proofs.Run.{ran-none, ran-next, ran-last, ran-past, ran-long}
+use Rattle.label.proofs.Run.{ran-next, ran-last, ran-past, ran-long}
 use Rattle.label.proofs.cursor.last_byte.Goals as goal
-
-pub loop-i-init : goal.loop-i-init
-loop-i-init c = (search rules, search rules, ran-none c.args.s.now c.args.end c.requires c.args.at)
 
 pub returns-then-s-i-lt128 : goal.returns-then-s-i-lt128
 returns-then-s-i-lt128 c =

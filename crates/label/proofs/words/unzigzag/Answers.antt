@@ -9,5 +9,5 @@ returns-then-z-eq0 c = to_z-of_z w64 _ (record { sfits = c.integer_of.type_inv }
 
 pub returns-else-z-eq0 : goal.returns-else-z-eq0
 returns-else-z-eq0 c =
-    let e : 2 ^ 64 - suc c.wrapping_sub_u64.result ≡ c.args.z / 2 = omega arith in
+    let e : 2 ^ 64 - suc (2 ^ 64 - 1 - c.args.z / 2) ≡ c.args.z / 2 = omega arith in
     to_z-of_z w64 _ (record { sfits = c.integer_of-else-z-eq0.type_inv }) ∙ c.integer_of-else-z-eq0.ensures ∙ integer-high (omega arith) ∙ ap negsuc e ∙ sym (unzigzag-odd c.args.z c.if-z-eq0.false)

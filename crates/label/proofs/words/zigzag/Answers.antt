@@ -1,17 +1,23 @@
 -- `label::words::zigzag` meets its contract, by the word of n.
-use Rattle.std.proofs.Common.{◌≡◌, ℕ, suc, ◌+◌, ◌-◌, ◌*◌, ◌^◌, ap, ◌∙◌, arith, w64}
-use mir.ValLaws.{to_z-of_z}
-use Rattle.format.specs.Label.{word}
-use Rattle.label.proofs.Signed.{i64-signed, zigzag-low, zigzag-high}
+use Rattle.std.proofs.Common.{arith}
+use Rattle.format.specs.Label.{Signed64}
+use Rattle.label.proofs.Signed.{word-upper, word-below}
 use Rattle.label.proofs.words.zigzag.Goals as goal
 
-pub returns-then-w-lt9223372036854775808 : goal.returns-then-w-lt9223372036854775808
-returns-then-w-lt9223372036854775808 c =
-    let e : c.word_of-w.result ≡ word c.args.n = c.word_of-w.ensures ∙ ap word (to_z-of_z w64 c.args.n c.ranges.n) in
-    ap (λ (w : ℕ). 2 * w) e ∙ zigzag-low c.args.n (i64-signed c.args.n c.ranges.n) (omega arith)
+pub overflow_mul-result : goal.overflow_mul-result
+unfolding Signed64
+overflow_mul-result c = omega (arith, word-upper c.args.n c.ranges.n c.word_of-w.result c.word_of-w.ensures c.if-n-ge0.true)
 
-pub returns-else-w-lt9223372036854775808 : goal.returns-else-w-lt9223372036854775808
-returns-else-w-lt9223372036854775808 c =
-    let e : c.word_of-w.result ≡ word c.args.n = c.word_of-w.ensures ∙ ap word (to_z-of_z w64 c.args.n c.ranges.n) in
-    let d : 2 * (c.wrapping_sub_u64-m.result - 1) + 1 ≡ 2 * (2 ^ 64 - suc (word c.args.n)) + 1 = omega arith in
-    d ∙ zigzag-high c.args.n (i64-signed c.args.n c.ranges.n) (omega arith)
+pub overflow_mul-result-else-n-ge0 : goal.overflow_mul-result-else-n-ge0
+unfolding Signed64
+overflow_mul-result-else-n-ge0 c = omega (arith, word-below c.args.n c.ranges.n c.word_of-w.result c.word_of-w.ensures c.if-n-ge0.false)
+
+pub overflow_add-result : goal.overflow_add-result
+unfolding Signed64
+overflow_add-result c = omega (arith, word-below c.args.n c.ranges.n c.word_of-w.result c.word_of-w.ensures c.if-n-ge0.false)
+
+pub returns-then-n-ge0 : goal.returns-then-n-ge0
+returns-then-n-ge0 c = (word-upper c.args.n c.ranges.n c.word_of-w.result c.word_of-w.ensures c.if-n-ge0.true).0
+
+pub returns-else-n-ge0 : goal.returns-else-n-ge0
+returns-else-n-ge0 c = (word-below c.args.n c.ranges.n c.word_of-w.result c.word_of-w.ensures c.if-n-ge0.false).0

@@ -1,7 +1,10 @@
 -- `read_leaf::block::block_bytes` meets its contract.
-use mathlib.Core.Path.{refl}
+use mathlib.Core.Path.{◌≡◌, refl}
+use borrow.Author.Rules.{rules}
 use Prim.Native.Nat.{◌+◌, ◌-◌, ◌<◌, ◌≤◌}
 use native.Mathlib.Omega.{arith}
+use Rattle.std.specs.Prelude.{Some, None, Err}
+use Rattle.format.specs.declared.refusal.Refusal.TheVariants.{NoBlock}
 use Rattle.format.specs.Read.{in_message, read_bytes}
 use Rattle.label.specs.Cursor.{cursor}
 use Rattle.read_pieces.specs.Pieces.{Inside}
@@ -9,32 +12,38 @@ use Rattle.read_leaf.proofs.Blocks.{block_none, block-not, block-takes, opened_i
 use Rattle.read_leaf.proofs.Reading.{bytes-got, bytes-not}
 use Rattle.read_leaf.proofs.block.block_bytes.Goals as goal
 
-pub returns-in_default : goal.returns-in_default
-returns-in_default c =
+pub returns-in_err-block-clause-takes : goal.returns-in_err-block-clause-takes
+returns-in_err-block-clause-takes c =
     let f = read_bytes (in_message c.args.m.now) c.args.size in
-    record { takes = block_none c.args.m.now c.args.key f c.args.c c.block_of.ensures c.requires.2 c.in_default.is; part_in = tt }
+    let q : c.from_residual.result ≡ Err NoBlock = search rules in
+    let z : c.block_of.result ≡ None = search rules in
+    rw q (block_none c.args.m.now c.args.key f c.args.c c.block_of.ensures c.requires.2 z)
 
 pub left_in-requires : goal.left_in-requires
 left_in-requires c =
-    let s = opened-start c.block_of.ensures c.in-Block.is c.args.c c.requires.2 c.requires.1 in
-    (omega (arith, c.start.ensures.0, s), opened_inside c.block_of.ensures c.in-Block.is)
+    let z : c.block_of.result ≡ Some c.in_ok-block.block = search rules in
+    let s = opened-start c.block_of.ensures z c.args.c c.requires.2 c.requires.1 in
+    (omega (arith, c.start.ensures.0, s), opened_inside c.block_of.ensures z)
 
-pub returns-then-left_in-size : goal.returns-then-left_in-size
-returns-then-left_in-size c =
+pub returns-then-left_in-size-clause-takes : goal.returns-then-left_in-size-clause-takes
+returns-then-left_in-size-clause-takes c =
+    let z : c.block_of.result ≡ Some c.in_ok-block.block = search rules in
     let f = read_bytes (in_message c.args.m.now) c.args.size in
-    let h : c.in-Block.block.end - c.in-Block.block.at < c.args.size = omega (arith, c.left_in.ensures, c.if-left_in-size.true) in
-    record { takes = block-not c.args.m.now c.args.key f c.args.c c.block_of.ensures c.requires.2 27 c.in-Block.is (bytes-not c.args.m.now c.in-Block.block (opened_inside c.block_of.ensures c.in-Block.is) c.args.size h); part_in = tt }
+    let h : c.in_ok-block.block.end - c.in_ok-block.block.at < c.args.size = omega (arith, c.left_in.ensures, c.if-left_in-size.true) in
+    block-not c.args.m.now c.args.key f c.args.c c.block_of.ensures c.requires.2 27 z (bytes-not c.args.m.now c.in_ok-block.block (opened_inside c.block_of.ensures z) c.args.size h)
 
 pub advance-requires : goal.advance-requires
 advance-requires c =
-    let i = opened_inside c.block_of.ensures c.in-Block.is in
-    (opened-good c.block_of.ensures c.in-Block.is c.args.c c.requires.2, c.requires.1, omega (arith, c.requires.0.small, i.ordered, i.inside, c.left_in.ensures, c.if-left_in-size.false))
+    let z : c.block_of.result ≡ Some c.in_ok-block.block = search rules in
+    let i = opened_inside c.block_of.ensures z in
+    (opened-good c.block_of.ensures z c.args.c c.requires.2, c.requires.1, omega (arith, c.requires.0.small, i.ordered, i.inside, c.left_in.ensures, c.if-left_in-size.false))
 
-pub returns : goal.returns
-returns c =
+pub returns-clause-takes : goal.returns-clause-takes
+returns-clause-takes c =
+    let z : c.block_of.result ≡ Some c.in_ok-block.block = search rules in
     let f = read_bytes (in_message c.args.m.now) c.args.size in
-    let i = opened_inside c.block_of.ensures c.in-Block.is in
-    let h : c.args.size ≤ c.in-Block.block.end - c.in-Block.block.at = omega (arith, c.left_in.ensures, c.if-left_in-size.false) in
-    let next : Inside c.args.m.now (cursor (c.in-Block.block.at + c.args.size) c.in-Block.block.end) = record { ordered = omega (arith, i.ordered, h); inside = i.inside } in
-    let later : c.in-Block.block.at ≤ c.in-Block.block.at + c.args.size = omega arith in
-    record { takes = block-takes c.args.m.now c.args.key f c.args.c c.block_of.ensures c.requires.2 _ (cursor (c.in-Block.block.at + c.args.size) c.in-Block.block.end) c.in-Block.is (bytes-got c.args.m.now c.in-Block.block i c.args.size h) refl later next c.advance.ensures; part_in = (refl, omega (arith, i.ordered, i.inside, h)) }
+    let i = opened_inside c.block_of.ensures z in
+    let h : c.args.size ≤ c.in_ok-block.block.end - c.in_ok-block.block.at = omega (arith, c.left_in.ensures, c.if-left_in-size.false) in
+    let next : Inside c.args.m.now (cursor (c.in_ok-block.block.at + c.args.size) c.in_ok-block.block.end) = record { ordered = omega (arith, i.ordered, h); inside = i.inside } in
+    let later : c.in_ok-block.block.at ≤ c.in_ok-block.block.at + c.args.size = omega arith in
+    block-takes c.args.m.now c.args.key f c.args.c c.block_of.ensures c.requires.2 _ (cursor (c.in_ok-block.block.at + c.args.size) c.in_ok-block.block.end) z (bytes-got c.args.m.now c.in_ok-block.block i c.args.size h) refl later next c.advance.ensures

@@ -8,9 +8,6 @@ pub first_block-requires : goal.first_block-requires
 unfolding store_of
 first_block-requires c = (c.requires.0, c.requires.1, is_none c.find.ensures.result_value c.in_default.is)
 
-pub returns-in_default : goal.returns-in_default
-returns-in_default c = c.first_block.ensures
-
 pub returns : goal.returns
 unfolding store_of
-returns c = block-known c.args.key _ c.requires.0 (is-some c.find.ensures.result_value c.in-At.is)
+returns c = block-known c.args.key _ c.requires.0 (is-some c.find.ensures.result_value c.in-Some.is)

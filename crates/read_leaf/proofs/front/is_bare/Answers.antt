@@ -5,8 +5,8 @@ use borrow.Author.Rules.{rules}
 use Rattle.read_leaf.proofs.Labels.{bare-open, bare-label}
 use Rattle.read_leaf.proofs.front.is_bare.Goals as goal
 
-pub returns-in-Open : goal.returns-in-Open
-returns-in-Open c = bare-open c.in-Open.is
+pub returns-in-None : goal.returns-in-None
+returns-in-None c = bare-open c.in-None.is
 
-pub returns-in-Label : goal.returns-in-Label
-returns-in-Label c = bare-label c.in-Label.l c.in-Label.is (to_z-of_z w64 c.in-Label.l (search rules)) c.is_label.ensures
+pub returns-in-Some : goal.returns-in-Some
+returns-in-Some c = bare-label c.in-Some.l c.in-Some.is (to_z-of_z w64 c.in-Some.l (search rules)) c.is_label.ensures

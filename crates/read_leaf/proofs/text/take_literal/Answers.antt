@@ -1,36 +1,21 @@
 -- `read_leaf::text::take_literal` meets its contract.
-use mathlib.Core.Path.{refl, sym, ap, subst}
-use native.Mathlib.Omega.{arith}
-use Rattle.read_leaf.specs.Meaning.{part_of, held_leaf, PartIn}
-use Rattle.read_leaf.specs.declared.block.Part.{Part}
+use borrow.Author.Rules.{rules}
+use mathlib.Core.Path.{◌≡◌, ap}
+use Rattle.read_leaf.specs.Meaning.{part_of, held_leaf}
+use Rattle.std.specs.Prelude.{Err}
 use Rattle.read_leaf.proofs.Texts.{bytes-refused, bytes-35, bytes-28, bytes-right}
 use Rattle.read_leaf.proofs.text.take_literal.Goals as goal
 
-pub returns-in_default : goal.returns-in_default
-returns-in_default c = record { takes = bytes-refused c.args.m.now c.args.modes c.args.key (held_leaf c.args.leaf) c.args.size c.args.c c.is_ended-ended.ensures c.size_with_ending.ensures c.take_bytes-taken.ensures.takes (ap part_of c.in_default.is); part_in = subst (λ (p : Part). PartIn c.args.m.now c.args.size p) (sym c.in_default.is) tt }
+pub returns-in_err-taken-clause-takes : goal.returns-in_err-taken-clause-takes
+returns-in_err-taken-clause-takes c =
+    let q : c.from_residual.result ≡ Err c.in_err-taken.field-0.0 = search rules in
+    rw q (bytes-refused c.args.message.now.bytes.now c.args.message.now.modes c.args.key (held_leaf c.args.leaf) c.args.size c.args.c c.is_ended-ended.ensures c.size_with_ending-all.ensures c.take_bytes.ensures.takes (ap part_of c.in_err-taken.was))
 
-pub overflow_add-start : goal.overflow_add-start
-overflow_add-start c =
-    let p = subst (λ (p : Part). PartIn c.args.m.now c.size_with_ending.result p) c.in-At.is c.take_bytes-taken.ensures.part_in in
-    omega (arith, p.1, c.size_with_ending.ensures, c.requires.0.small)
+pub returns-then-not-ends-clause-takes : goal.returns-then-not-ends-clause-takes
+returns-then-not-ends-clause-takes c = bytes-35 c.args.message.now.bytes.now c.args.message.now.modes c.args.key (held_leaf c.args.leaf) c.args.size c.args.c c.is_ended-ended.ensures c.size_with_ending-all.ensures c.take_bytes.ensures.takes (ap part_of c.in_ok-taken.was) c.is_ending-ends.ensures c.if-not-ends.true
 
-pub is_ending-ends-requires : goal.is_ending-ends-requires
-is_ending-ends-requires c =
-    let p = subst (λ (p : Part). PartIn c.args.m.now c.size_with_ending.result p) c.in-At.is c.take_bytes-taken.ensures.part_in in
-    omega (arith, p.1, c.size_with_ending.ensures)
+pub returns-then-not-right-clause-takes : goal.returns-then-not-right-clause-takes
+returns-then-not-right-clause-takes c = bytes-28 c.args.message.now.bytes.now c.args.message.now.modes c.args.key (held_leaf c.args.leaf) c.args.size c.args.c c.is_ended-ended.ensures c.size_with_ending-all.ensures c.take_bytes.ensures.takes (ap part_of c.in_ok-taken.was) c.is_ending-ends.ensures c.is_right-right.ensures c.if-not-ends.false c.if-not-right.true
 
-pub is_right-right-requires : goal.is_right-right-requires
-is_right-right-requires c =
-    let p = subst (λ (p : Part). PartIn c.args.m.now c.size_with_ending.result p) c.in-At.is c.take_bytes-taken.ensures.part_in in
-    omega (arith, p.1, c.size_with_ending.ensures)
-
-pub returns-then-not-ends : goal.returns-then-not-ends
-returns-then-not-ends c = record { takes = bytes-35 c.args.m.now c.args.modes c.args.key (held_leaf c.args.leaf) c.args.size c.args.c c.is_ended-ended.ensures c.size_with_ending.ensures c.take_bytes-taken.ensures.takes (ap part_of c.in-At.is) c.is_ending-ends.ensures c.if-not-ends.true; part_in = tt }
-
-pub returns-then-not-right : goal.returns-then-not-right
-returns-then-not-right c = record { takes = bytes-28 c.args.m.now c.args.modes c.args.key (held_leaf c.args.leaf) c.args.size c.args.c c.is_ended-ended.ensures c.size_with_ending.ensures c.take_bytes-taken.ensures.takes (ap part_of c.in-At.is) c.is_ending-ends.ensures c.is_right-right.ensures c.if-not-ends.false c.if-not-right.true; part_in = tt }
-
-pub returns : goal.returns
-returns c =
-    let p = subst (λ (p : Part). PartIn c.args.m.now c.size_with_ending.result p) c.in-At.is c.take_bytes-taken.ensures.part_in in
-    record { takes = bytes-right c.args.m.now c.args.modes c.args.key (held_leaf c.args.leaf) c.args.size c.args.c c.is_ended-ended.ensures c.size_with_ending.ensures c.take_bytes-taken.ensures.takes (ap part_of c.in-At.is) c.is_ending-ends.ensures c.is_right-right.ensures c.if-not-ends.false c.if-not-right.false; part_in = (refl, omega (arith, p.1, c.size_with_ending.ensures)) }
+pub returns-clause-takes : goal.returns-clause-takes
+returns-clause-takes c = bytes-right c.args.message.now.bytes.now c.args.message.now.modes c.args.key (held_leaf c.args.leaf) c.args.size c.args.c c.is_ended-ended.ensures c.size_with_ending-all.ensures c.take_bytes.ensures.takes (ap part_of c.in_ok-taken.was) c.is_ending-ends.ensures c.is_right-right.ensures c.if-not-ends.false c.if-not-right.false

@@ -6,7 +6,7 @@ use Rattle.read_walk.specs.Descent.{Comes}
 use Rattle.read_walk.proofs.descent.descend.Given as goal
 
 abbrev pub invariant-loop-absent : goal.invariant-loop-absent
-invariant-loop-absent l = (length l.rows ≡ length l.initial.rows) × Comes l.table l.m l.initial.rows l.rows l.left l.node l.omittable l.initial.core l.n l.path l.at l.absent l.core l.i
+invariant-loop-absent l = (length l.rows ≡ length l.initial.rows) × Comes l.table l.m l.initial.rows l.rows l.left l.node l.omittable l.initial.reached.core l.initial.reached.rows l.path l.current l.absent l.reached.core l.reached.rows
 
 abbrev pub decreases-loop-absent : goal.decreases-loop-absent
 decreases-loop-absent l = l.path

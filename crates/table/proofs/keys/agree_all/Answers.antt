@@ -1,28 +1,19 @@
 -- `table::keys::agree_all` meets its contract. The invariant of the loop: the nodes before i agree, and the notes are those of their keys.
 use native.Mathlib.Omega.{arith}
-use mathlib.Core.Path.{refl, sym, ◌∙◌}
+use mathlib.Core.Path.{sym, ◌∙◌}
 use Rattle.format.specs.Table.{node_at, agrees}
 use Rattle.table.proofs.Tests.{passed_none, passed-more, pass-stops, pass-ends}
 use Rattle.table.proofs.Notes.{beside-self, beside-then}
 use Rattle.table.proofs.keys.agree_all.Goals as goal
 
 pub loop-i-init : goal.loop-i-init
-loop-i-init c = (omega arith, refl, passed_none (λ j. agrees c.args.n (node_at c.args.table.now) j) 15, c.requires.2, beside-self _)
-
-pub agree-requires : goal.agree-requires
-agree-requires c = (c.requires.0, c.loop-i-test.true, omega (arith, c.requires.1, c.loop-i.invariant.1), c.loop-i.invariant.3)
-
-pub shape_of-work-then-not-agree : goal.shape_of-work-then-not-agree
-shape_of-work-then-not-agree c = c.agree.auto.work ∙ c.loop-i.invariant.1
+loop-i-init c = (passed_none (λ j. agrees c.args.counted.now.n (node_at c.args.counted.now.table.now) j) 15, c.requires.2, beside-self _)
 
 pub returns-then-not-agree : goal.returns-then-not-agree
-returns-then-not-agree c = record { value = pass-stops (λ j. agrees c.args.n (node_at c.args.table.now) j) 15 c.args.n c.loop-i.i c.loop-i-test.true c.loop-i.invariant.2 (sym c.agree.ensures.value ∙ c.if-not-agree.true); beside = beside-then c.loop-i.invariant.4 c.agree.ensures.beside }
+returns-then-not-agree c = record { value = pass-stops (λ j. agrees c.args.counted.now.n (node_at c.args.counted.now.table.now) j) 15 c.args.counted.now.n c.loop-i.i c.loop-i-test.true c.loop-i.invariant.0 (sym c.agree.ensures.value ∙ c.if-not-agree.true); beside = beside-then c.loop-i.invariant.2 c.agree.ensures.beside }
 
 pub loop-i-preserved : goal.loop-i-preserved
-loop-i-preserved c = (omega (arith, c.loop-i-test.true), c.agree.auto.work ∙ c.loop-i.invariant.1, passed-more (λ j. agrees c.args.n (node_at c.args.table.now) j) 15 c.loop-i.i c.loop-i.invariant.2 (sym c.agree.ensures.value ∙ c.if-not-agree.false), c.agree.ensures.notes, beside-then c.loop-i.invariant.4 c.agree.ensures.beside)
-
-pub shape_of-work : goal.shape_of-work
-shape_of-work c = c.loop-i.invariant.1
+loop-i-preserved c = (passed-more (λ j. agrees c.args.counted.now.n (node_at c.args.counted.now.table.now) j) 15 c.loop-i.i c.loop-i.invariant.0 (sym c.agree.ensures.value ∙ c.if-not-agree.false), c.agree.ensures.notes, beside-then c.loop-i.invariant.2 c.agree.ensures.beside)
 
 pub returns : goal.returns
-returns c = record { value = pass-ends (λ j. agrees c.args.n (node_at c.args.table.now) j) 15 c.args.n c.loop-i.i c.loop-i.invariant.0 c.loop-i-test.false c.loop-i.invariant.2; beside = c.loop-i.invariant.4 }
+returns c = record { value = pass-ends (λ j. agrees c.args.counted.now.n (node_at c.args.counted.now.table.now) j) 15 c.args.counted.now.n c.loop-i.i (omega arith) c.loop-i-test.false c.loop-i.invariant.0; beside = c.loop-i.invariant.2 }

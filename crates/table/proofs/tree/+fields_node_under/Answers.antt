@@ -1,67 +1,76 @@
 -- `node`, `under` and `fields` of `table::tree` meet their contracts. The path falls: from a node to what is below it. The invariant of the loop: who makes the fields that are left has made them all.
 use native.Mathlib.Omega.{arith}
-use mathlib.Core.Path.{refl, ◌∙◌}
+use native.Mathlib.Numerals.{unary_clauses}
+use mathlib.Core.Path.{◌≡◌, refl, ◌∙◌}
+use Rattle.std.proofs.Common.{rules}
+use Prim.Native.Nat.{◌+◌, ◌-◌}
 use Rattle.format.specs.Table.{node_at}
 use Rattle.table.specs.Passes.{context_of}
+use Rattle.table.specs.Answers.{met}
+use Rattle.table.specs.Kind.{kind-here, kind-not, kind-none}
+use Rattle.table.specs.declared.nodes.Kind.TheVariants as kind
 use Rattle.table.proofs.Trees.{leads-self, node-deep, node-not, node-inside, node-fails, node-within, node_done, below-record, below-array, below-block, below-nullable, below-nothing, fields-none, fields-not, fields-again}
+use Rattle.table.proofs.tree.+fields_node_under.Goals.{under-in_default-via-in-Some+in_default, under-in_default-via-in_default}
 use Rattle.table.proofs.tree.+fields_node_under.Goals as goal
 
-pub fields-loop-k-init : goal.fields-loop-k-init
-fields-loop-k-init t c = (refl, leads-self)
+pub fields-loop-init : goal.fields-loop-init
+fields-loop-init t c = (refl, simp unary_clauses leads-self)
 
-pub fields-node-r-requires : goal.fields-node-r-requires
-fields-node-r-requires t c = (omega arith, omega (arith, c.loop-k.invariant.0))
+pub fields-returns-in_err-at : goal.fields-returns-in_err-at
+fields-returns-in_err-at t c = rw (met c.from_residual.ensures.1) (c.loop.invariant.1.onward (fields-not c.args.counted.now.n (node_at c.args.counted.now.table.now) c.args.path (c.args.count - c.loop.counter) c.loop.at (λ z. omega arith) c.node.ensures c.in_err-at.was))
 
-pub fields-shape_of-work-in_default : goal.fields-shape_of-work-in_default
-fields-shape_of-work-in_default t c = c.node-r.auto.work ∙ c.loop-k.invariant.0
-
-pub fields-returns-in_default : goal.fields-returns-in_default
-fields-returns-in_default t c = c.loop-k.invariant.1.onward (fields-not c.args.n (node_at c.args.table.now) c.args.path c.loop-k.k c.loop-k.at c.loop-k-test.true c.node-r.ensures c.in_default.is)
-
-pub fields-loop-k-preserved : goal.fields-loop-k-preserved
-fields-loop-k-preserved t c = (c.node-r.auto.work ∙ c.loop-k.invariant.0, fields-again c.args.n (node_at c.args.table.now) c.args.path c.loop-k.k c.loop-k.at c.loop-k-test.true c.node-r.ensures c.loop-k.invariant.1 c.in-Next.is)
-
-pub fields-shape_of-work : goal.fields-shape_of-work
-fields-shape_of-work t c = c.loop-k.invariant.0
+pub fields-loop-preserved : goal.fields-loop-preserved
+fields-loop-preserved t c = let e : c.args.count - (c.loop.counter + 1) ≡ c.args.count - c.loop.counter - 1 = omega arith in (c.node.auto.work ∙ c.loop.invariant.0, rw e (fields-again c.args.counted.now.n (node_at c.args.counted.now.table.now) c.args.path (c.args.count - c.loop.counter) c.loop.at (λ z. omega arith) c.node.ensures c.loop.invariant.1 c.in_ok-at.was))
 
 pub fields-returns : goal.fields-returns
-fields-returns t c = c.loop-k.invariant.1.onward (fields-none c.args.n (node_at c.args.table.now) c.args.path c.loop-k.k c.loop-k.at c.loop-k-test.false)
+fields-returns t c = c.loop.invariant.1.onward (fields-none c.args.counted.now.n (node_at c.args.counted.now.table.now) c.args.path (c.args.count - c.loop.counter) c.loop.at (omega arith))
 
 pub node-returns-then-path-eq0 : goal.node-returns-then-path-eq0
-node-returns-then-path-eq0 t c = node-deep c.args.n (node_at c.args.table.now) c.args.path (context_of c.args.parent) c.args.i c.if-path-eq0.true
+node-returns-then-path-eq0 t c = node-deep c.args.counted.now.n (node_at c.args.counted.now.table.now) c.args.path (context_of c.args.parent) c.args.i c.if-path-eq0.true
 
-pub node-returns-in_default : goal.node-returns-in_default
-node-returns-in_default t c = node-not c.args.n (node_at c.args.table.now) c.args.path (context_of c.args.parent) c.args.i c.if-path-eq0.false c.stand-first.ensures c.in_default.is
+pub node-returns-in_err-stand : goal.node-returns-in_err-stand
+node-returns-in_err-stand t c = rw (met c.from_residual.ensures.1) (node-not c.args.counted.now.n (node_at c.args.counted.now.table.now) c.args.path (context_of c.args.parent) c.args.i c.if-path-eq0.false c.stand.ensures c.in_err-stand.was)
 
-pub node-under-r-requires : goal.node-under-r-requires
-node-under-r-requires t c = (omega arith, omega (arith, node-inside c.args.n (node_at c.args.table.now) c.args.path (context_of c.args.parent) c.args.i c.if-path-eq0.false c.stand-first.ensures c.in-Next.is))
-
-pub node-returns-in_default-r : goal.node-returns-in_default-r
-node-returns-in_default-r t c = node-fails c.args.n (node_at c.args.table.now) c.args.path (context_of c.args.parent) c.args.i c.if-path-eq0.false c.stand-first.ensures c.in-Next.is c.under-r.ensures c.in_default-r.is
+pub node-returns-in_err-j : goal.node-returns-in_err-j
+node-returns-in_err-j t c = rw (met c.from_residual-in_err-j.ensures.1) (node-fails c.args.counted.now.n (node_at c.args.counted.now.table.now) c.args.path (context_of c.args.parent) c.args.i c.if-path-eq0.false c.stand.ensures c.in_ok-stand.was c.under.ensures c.in_err-j.was)
 
 pub node-overflow_cast-work : goal.node-overflow_cast-work
-node-overflow_cast-work t c = omega (arith, node-within c.args.n (node_at c.args.table.now) c.args.path (context_of c.args.parent) c.args.i c.if-path-eq0.false c.stand-first.ensures c.in-Next.is c.under-r.ensures c.in-Next-r.is)
+node-overflow_cast-work t c = omega (arith, node-within c.args.counted.now.n (node_at c.args.counted.now.table.now) c.args.path (context_of c.args.parent) c.args.i c.if-path-eq0.false c.stand.ensures c.in_ok-stand.was c.under.ensures c.in_ok-j.was)
+
+pub node-under-requires : goal.node-under-requires
+node-under-requires t c = (omega arith, omega (arith, node-inside c.args.counted.now.n (node_at c.args.counted.now.table.now) c.args.path (context_of c.args.parent) c.args.i c.if-path-eq0.false c.stand.ensures c.in_ok-stand.was))
 
 pub node-offset_bounds-work-i : goal.node-offset_bounds-work-i
-node-offset_bounds-work-i t c = omega (arith, node-inside c.args.n (node_at c.args.table.now) c.args.path (context_of c.args.parent) c.args.i c.if-path-eq0.false c.stand-first.ensures c.in-Next.is)
+node-offset_bounds-work-i t c = omega (arith, node-inside c.args.counted.now.n (node_at c.args.counted.now.table.now) c.args.path (context_of c.args.parent) c.args.i c.if-path-eq0.false c.stand.ensures c.in_ok-stand.was)
 
 pub node-bounds-work-i : goal.node-bounds-work-i
-node-bounds-work-i t c = omega (arith, c.requires.2, c.under-r.auto.work, node-inside c.args.n (node_at c.args.table.now) c.args.path (context_of c.args.parent) c.args.i c.if-path-eq0.false c.stand-first.ensures c.in-Next.is)
+node-bounds-work-i t c = omega (arith, c.requires, c.under.auto.work, node-inside c.args.counted.now.n (node_at c.args.counted.now.table.now) c.args.path (context_of c.args.parent) c.args.i c.if-path-eq0.false c.stand.ensures c.in_ok-stand.was)
 
 pub node-returns : goal.node-returns
-node-returns t c = node_done c.args.n (node_at c.args.table.now) c.args.path (context_of c.args.parent) c.args.i c.if-path-eq0.false c.stand-first.ensures c.in-Next.is c.under-r.ensures c.in-Next-r.is
+node-returns t c = node_done c.args.counted.now.n (node_at c.args.counted.now.table.now) c.args.path (context_of c.args.parent) c.args.i c.if-path-eq0.false c.stand.ensures c.in_ok-stand.was c.under.ensures c.in_ok-j.was
 
-pub under-returns-then-kind-eq-RECORD : goal.under-returns-then-kind-eq-RECORD
-under-returns-then-kind-eq-RECORD t c = below-record c.args.n (node_at c.args.table.now) c.args.path c.args.i c.kind_at-kind.ensures c.if-kind-eq-RECORD.true c.argument_at.ensures.0 c.fields.ensures
+pub under-returns-in-Some-Record : goal.under-returns-in-Some-Record
+under-returns-in-Some-Record t c = below-record c.args.counted.now.n (node_at c.args.counted.now.table.now) c.args.path c.args.i (kind-here kind.Record c.kind_at.ensures c.in-Some-Record.is c.in-Some-Record.field-0-is) c.argument_at.ensures.0 c.fields.ensures
 
-pub under-returns-then-kind-eq-ARRAY : goal.under-returns-then-kind-eq-ARRAY
-under-returns-then-kind-eq-ARRAY t c = below-array c.args.n (node_at c.args.table.now) c.args.path c.args.i c.kind_at-kind.ensures c.if-kind-eq-ARRAY.true c.node.ensures
+pub under-returns-in-Some-Array : goal.under-returns-in-Some-Array
+under-returns-in-Some-Array t c = below-array c.args.counted.now.n (node_at c.args.counted.now.table.now) c.args.path c.args.i (kind-here kind.Array c.kind_at.ensures c.in-Some-Array.is c.in-Some-Array.field-0-is) c.node.ensures
 
-pub under-returns-then-kind-eq-BLOCK : goal.under-returns-then-kind-eq-BLOCK
-under-returns-then-kind-eq-BLOCK t c = below-block c.args.n (node_at c.args.table.now) c.args.path c.args.i c.kind_at-kind.ensures c.if-kind-eq-BLOCK.true c.leaf.ensures
+pub under-returns-in-Some-Block : goal.under-returns-in-Some-Block
+under-returns-in-Some-Block t c = below-block c.args.counted.now.n (node_at c.args.counted.now.table.now) c.args.path c.args.i (kind-here kind.Block c.kind_at.ensures c.in-Some-Block.is c.in-Some-Block.field-0-is) c.leaf.ensures
 
-pub under-returns-then-kind-eq-NULLABLE : goal.under-returns-then-kind-eq-NULLABLE
-under-returns-then-kind-eq-NULLABLE t c = below-nullable c.args.n (node_at c.args.table.now) c.args.path c.args.i c.kind_at-kind.ensures c.if-kind-eq-NULLABLE.true c.node-then-kind-eq-NULLABLE.ensures
+pub under-returns-in-Some-Nullable : goal.under-returns-in-Some-Nullable
+under-returns-in-Some-Nullable t c = below-nullable c.args.counted.now.n (node_at c.args.counted.now.table.now) c.args.path c.args.i (kind-here kind.Nullable c.kind_at.ensures c.in-Some-Nullable.is c.in-Some-Nullable.field-0-is) c.node-in-Some-Nullable.ensures
 
-pub under-returns : goal.under-returns
-under-returns t c = below-nothing c.args.n (node_at c.args.table.now) c.args.path c.args.i c.kind_at-kind.ensures c.if-kind-eq-RECORD.false c.if-kind-eq-ARRAY.false c.if-kind-eq-BLOCK.false c.if-kind-eq-NULLABLE.false
+pub under-returns-in_default : goal.under-returns-in_default
+under-returns-in_default t c = elim c.in_default.branch [
+  | under-in_default-via-in-Some+in_default w ↦ below-nothing c.args.counted.now.n (node_at c.args.counted.now.table.now) c.args.path c.args.i
+      (kind-not kind.Record c.kind_at.ensures w.in_default.is (search rules))
+      (kind-not kind.Array c.kind_at.ensures w.in_default.is (search rules))
+      (kind-not kind.Block c.kind_at.ensures w.in_default.is (search rules))
+      (kind-not kind.Nullable c.kind_at.ensures w.in_default.is (search rules))
+  | under-in_default-via-in_default w ↦ below-nothing c.args.counted.now.n (node_at c.args.counted.now.table.now) c.args.path c.args.i
+      (kind-none kind.Record c.kind_at.ensures w.in_default.is)
+      (kind-none kind.Array c.kind_at.ensures w.in_default.is)
+      (kind-none kind.Block c.kind_at.ensures w.in_default.is)
+      (kind-none kind.Nullable c.kind_at.ensures w.in_default.is)
+]

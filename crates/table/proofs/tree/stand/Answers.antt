@@ -5,14 +5,14 @@ use Rattle.table.specs.Passes.{context_of}
 use Rattle.table.proofs.Tests.{stand-missing, stand-deep, stand-not, stand-right}
 use Rattle.table.proofs.tree.stand.Goals as goal
 
-pub returns-then-n-i : goal.returns-then-n-i
-returns-then-n-i c = stand-missing c.args.n (node_at c.args.table.now) c.args.path (context_of c.args.parent) c.args.i c.if-n-i.true
+pub returns-then-counted-i : goal.returns-then-counted-i
+returns-then-counted-i c = stand-missing c.args.counted.now.n (node_at c.args.counted.now.table.now) c.args.path (context_of c.args.parent) c.args.i c.if-counted-i.true
 
 pub returns-then-path-eq0 : goal.returns-then-path-eq0
-returns-then-path-eq0 c = stand-deep c.args.n (node_at c.args.table.now) c.args.path (context_of c.args.parent) c.args.i c.if-n-i.false c.if-path-eq0.true
+returns-then-path-eq0 c = stand-deep c.args.counted.now.n (node_at c.args.counted.now.table.now) c.args.path (context_of c.args.parent) c.args.i c.if-counted-i.false c.if-path-eq0.true
 
 pub returns-then-not-may_stand : goal.returns-then-not-may_stand
-returns-then-not-may_stand c = stand-not c.args.n (node_at c.args.table.now) c.args.path (context_of c.args.parent) c.args.i c.if-n-i.false c.if-path-eq0.false (sym c.may_stand.ensures ∙ c.if-not-may_stand.true)
+returns-then-not-may_stand c = stand-not c.args.counted.now.n (node_at c.args.counted.now.table.now) c.args.path (context_of c.args.parent) c.args.i c.if-counted-i.false c.if-path-eq0.false (sym c.may_stand.ensures ∙ c.if-not-may_stand.true)
 
 pub returns : goal.returns
-returns c = stand-right c.args.n (node_at c.args.table.now) c.args.path (context_of c.args.parent) c.args.i c.if-n-i.false c.if-path-eq0.false (sym c.may_stand.ensures ∙ c.if-not-may_stand.false)
+returns c = stand-right c.args.counted.now.n (node_at c.args.counted.now.table.now) c.args.path (context_of c.args.parent) c.args.i c.if-counted-i.false c.if-path-eq0.false (sym c.may_stand.ensures ∙ c.if-not-may_stand.false)

@@ -1,26 +1,23 @@
 -- `write_row::leaf::fixed` meets its contract.
-use Rattle.write_row.proofs.Facts.{told, fixed-none, fixed-long, fixed-some, near, few-rows}
-use Rattle.rows.specs.Placed.{place, Inside}
-use mathlib.Core.Path.{refl, subst}
-use lib.ListN.{length}
+use Rattle.std.specs.Prelude.{Err}
+use Rattle.write_row.proofs.Facts.{part-slice, met, missing, found, placed, told, fixed-none, fixed-long, fixed-some, near}
+use Rattle.rows.specs.Placed.{place}
+use mathlib.Core.Path.{refl, ap, ◌∙◌}
 use Rattle.format.specs.Row.{is_place}
 use Rattle.write_row.proofs.leaf.fixed.Goals as goal
 
-pub place_under-requires : goal.place_under-requires
+pub place_under-place-requires : goal.place_under-place-requires
 unfolding is_place
-place_under-requires c = refl
+place_under-place-requires c = refl
 
-pub returns-in_default : goal.returns-in_default
-returns-in_default c = fixed-none c.requires.0 c.args.key c.args.node c.args.labelled c.args.n (told place c.place_under.ensures.result_value c.in_default.is)
+pub returns-in_err-start : goal.returns-in_err-start
+returns-in_err-start c = rw (met c.from_residual.ensures.1 ∙ ap Err (missing c.ok_or.ensures.value c.in_err-start.was).1) (fixed-none c.requires.0 c.args.key c.args.node c.args.labelled c.args.n (told place c.place_under-place.ensures.result_value (missing c.ok_or.ensures.value c.in_err-start.was).0))
 
 pub returns-then-size-n : goal.returns-then-size-n
-returns-then-size-n c = fixed-long c.requires.0 c.args.key c.args.node c.args.labelled c.args.n (told place c.place_under.ensures.result_value c.in-At.is) (subst (λ x. Inside (length c.args.pool.now) x) c.in-At.is c.place_under.ensures.inside) c.if-size-n.true
+returns-then-size-n c = fixed-long c.requires.0 c.args.key c.args.node c.args.labelled c.args.n (told place c.place_under-place.ensures.result_value (found c.ok_or.ensures.ok_part c.in_ok-start.was)) (placed (found c.ok_or.ensures.ok_part c.in_ok-start.was) c.place_under-place.ensures.inside) c.if-size-n.true
 
-pub emit_fixed-requires : goal.emit_fixed-requires
-emit_fixed-requires c = (c.requires.0.ready.good, near c.requires.0, c.requires.1, (subst (λ x. Inside (length c.args.pool.now) x) c.in-At.is c.place_under.ensures.inside), c.requires.0.ready.small)
-
-pub next-requires : goal.next-requires
-next-requires c = few-rows c.requires.0
+pub emit-requires : goal.emit-requires
+emit-requires c = (c.requires.0.ready.good, near c.requires.0, c.requires.1)
 
 pub returns : goal.returns
-returns c = fixed-some c.requires.0 c.args.key c.args.node c.args.labelled c.args.n (told place c.place_under.ensures.result_value c.in-At.is) (subst (λ x. Inside (length c.args.pool.now) x) c.in-At.is c.place_under.ensures.inside) c.if-size-n.false c.emit_fixed.ensures c.next.ensures
+returns c = fixed-some c.requires.0 c.args.key c.args.node c.args.labelled c.args.n (told place c.place_under-place.ensures.result_value (found c.ok_or.ensures.ok_part c.in_ok-start.was)) (placed (found c.ok_or.ensures.ok_part c.in_ok-start.was) c.place_under-place.ensures.inside) c.if-size-n.false (rw (part-slice c.args.pool.now (record { start = c.in_ok-start.field-0.start; size = c.in_ok-start.field-0.size })) at c.emit.ensures) c.next.ensures

@@ -1,8 +1,0 @@
--- `table::nodes::flags_at` meets its contract.
-use mathlib.Core.Path.{refl}
-use Rattle.format.specs.Table.{node_at}
-use Rattle.table.proofs.nodes.flags_at.Goals as goal
-
-pub returns : goal.returns
-unfolding node_at
-returns c = refl

@@ -1,8 +1,0 @@
--- `writer::size_of` meets its contract.
-use Rattle.writer.proofs.size_of.Goals as goal
-
-pub returns-in-Refused : goal.returns-in-Refused
-returns-in-Refused c = rw c.in-Refused.is
-
-pub returns-in-Done : goal.returns-in-Done
-returns-in-Done c = rw c.in-Done.is
