@@ -1,4 +1,4 @@
--- `utf8::is_text` meets its contract: ASCII is text, and so are the bytes that std takes.
+-- `utf8::is_text` meets its contract: what is ASCII is text, and anything else is judged by its characters.
 use Rattle.std.proofs.Common.{sym, ap, ◌∙◌, arith}
 use Rattle.format.specs.Utf8.{is_text}
 use Rattle.utf8.proofs.Laws.{part-is, empty-text, ascii-text}
@@ -13,6 +13,4 @@ returns-then-is_ascii c =
     c.if-is_ascii.true ∙ sym (ascii-text c.in-Some.part.now (sym c.if-is_ascii.ensures)) ∙ ap is_text (e ∙ part-is c.args.s.now c.args.start c.args.end h)
 
 pub returns-else-is_ascii : goal.returns-else-is_ascii
-returns-else-is_ascii c =
-    let (h, k, e, n) = c.in-Some.ensures.lookup.0 in
-    c.are_characters.ensures ∙ ap is_text (e ∙ part-is c.args.s.now c.args.start c.args.end h)
+returns-else-is_ascii c = c.are_characters.ensures
