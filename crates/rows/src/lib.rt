@@ -126,14 +126,14 @@ fn start_under(rows: &[u64], node: u64, i: usize) -> Option<usize>
 }
 
 // The place of row i, if it is a row of this kind, one that has a place, under this node. No other kind is looked at: most
-// rows are texts.
-pub fn place_under(rows: &[u64], bytes: &[u8], node: u64, kind: Kind, i: usize) -> Option<Place>
-    requires { is_place (word_of kind) ≡ true }
-    ensures result_value { place result ≡ place_in (word_of kind) (found_under node rows.now (length bytes.now) i) }
+// rows are texts. The kind is its word, as in `put_row`: a `Kind` would ask more of callers.
+pub fn place_under(rows: &[u64], bytes: &[u8], node: u64, kind: u64, i: usize) -> Option<Place>
+    requires { is_place kind ≡ true }
+    ensures result_value { place result ≡ place_in kind (found_under node rows.now (length bytes.now) i) }
     ensures inside { IfSome result (IsInside (length bytes.now)) }
 {
     let at = start_under(rows, node, i)?;
-    if rows[at] != u64::from(kind) {
+    if rows[at] != kind {
         return None;
     }
     look_at_place(rows[at + 1], rows[at + 2], bytes.len() as u64).ok()

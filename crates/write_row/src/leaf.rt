@@ -57,7 +57,7 @@ fn text(
     ensures { WritesText how numbered (judged && how.ends) key pool.now rows.now out.old work.old at.core out.new work.new result (fit_leaf key (text_leaf judged) node false (rest_of pool.now rows.now at.row)) }
 {
     let ended = judged & how.ends;
-    let found = rows::place_under(rows, pool, node as u64, kind_of(judged), at.row);
+    let found = rows::place_under(rows, pool, node as u64, u64::from(kind_of(judged)), at.row);
     let place = found.ok_or(Refusal::Unfit(at.row))?;
     if !passes(pool, how.put | !judged, place) {
         return Err(Refusal::Text(at.row));
@@ -128,7 +128,7 @@ fn fixed(
     requires { (Holds pool.now rows.now work.old at.row at.core) × (key < 32) }
     ensures { WritesValue how pool.now rows.now out.old work.old at.core out.new work.new result (fit_leaf key (fixed n) node labelled (rest_of pool.now rows.now at.row)) }
 {
-    let place = rows::place_under(rows, pool, node as u64, Kind::Fixed, at.row);
+    let place = rows::place_under(rows, pool, node as u64, u64::from(Kind::Fixed), at.row);
     let Place { start, size } = place.ok_or(Refusal::Unfit(at.row))?;
     if size != n {
         return Err(Refusal::Unfit(at.row));
