@@ -33,7 +33,7 @@ word-bytes word = simp div-div-eq-div-mul
 
 -- ---- a part, and the 00 behind it where it is ended by one
 
-one-ending : (ended : Bool) → ended ≡ true → length (ending ended) ≡ 1
+pub one-ending : (ended : Bool) → ended ≡ true → length (ending ended) ≡ 1
 unfolding ending
 one-ending ended b = rw b
 
