@@ -1,33 +1,33 @@
-// What a value is as bytes: a part of the pool, a label, or a word. Each says how many they are and writes them. They are 65,537 at
-// most, so that no sum overflows.
-ghost use Rattle.std.specs.Prelude.{◌≡◌, ◌++◌, ◌+◌, ◌≤◌, List, ℕ, length};
+// What a value is as bytes: a part of the pool, a label, or a word. Each says how many they are and writes them. They are no more
+// than a slice's and a 00, so that no sum of a place and them overflows.
+ghost use Rattle.std.specs.Prelude.{◌≡◌, ◌++◌, ◌+◌, ◌<◌, ◌≤◌, ◌^◌, List, ℕ, length};
 ghost use Rattle.std.proofs.lemmas.List.Edits.{sets};
 ghost use Rattle.format.specs.Label.{label as label_of};
 ghost use Rattle.format.specs.Read.{ending};
 ghost use Rattle.format.specs.Write.{little_endian_bytes};
-ghost use Rattle.write_bytes.specs.Short.{ended-most, label-short, word-short};
+ghost use Rattle.write_bytes.specs.Short.{ended-bounded, label-bounded, word-bounded};
 
 pub trait Encoded: Copy {
     ghost bytes: { Self → List ℕ };
 
     fn size(self) -> usize
         ensures value { result ≡ length (bytes self) }
-        ensures upper_bound { result ≤ 65537 };
+        ensures upper_bound { result ≤ 2 ^ 63 };
 
     fn write(self, out: &mut [u8], at: usize)
         requires { at + length (bytes self) ≤ length out.old }
         ensures { out.new ≡ sets out.old at (bytes self) };
 
-    ghost bounded: { (x : Self) → length (bytes x) ≤ 65537 };
+    ghost bounded: { (x : Self) → length (bytes x) ≤ 2 ^ 63 };
 }
 
 // A part of the pool, and its ending where it is `ended` by a 00. The 00 is put and not copied: behind the part the pool may
-// hold anything, or end. A pool has 65,536 bytes at most, so that a part of it is as `short`.
+// hold anything, or end. Every slice is as `short`, so that this asks nothing of callers.
 #[derive(Clone, Copy)]
 pub struct Part<'a> {
     pub bytes: &'a [u8],
     pub ended: bool,
-    ghost short: { length bytes.now ≤ 65536 },
+    ghost short: { length bytes.now < 2 ^ 63 },
 }
 
 #[derive(Clone, Copy)]
@@ -51,7 +51,7 @@ fn copy(out: &mut [u8], at: usize, bytes: &[u8])
 impl Encoded for Part<'_> {
     ghost bytes = { λ p. p.bytes.now ++ ending p.ended };
 
-    ghost bounded = { λ p. ended-most p.bytes.now p.ended p.short };
+    ghost bounded = { λ p. ended-bounded p.bytes.now p.ended p.short };
 
     fn size(self) -> usize {
         modes::size_with_ending(self.bytes.len(), self.ended)
@@ -69,7 +69,7 @@ impl Encoded for Part<'_> {
 impl Encoded for Label {
     ghost bytes = { λ l. label_of l.0 };
 
-    ghost bounded = { λ l. label-short l.0 };
+    ghost bounded = { λ l. label-bounded l.0 };
 
     fn size(self) -> usize {
         label::label_size(self.0)
@@ -83,7 +83,7 @@ impl Encoded for Label {
 impl Encoded for Word {
     ghost bytes = { λ w. little_endian_bytes 8 w.0 };
 
-    ghost bounded = { λ w. word-short w.0 };
+    ghost bounded = { λ w. word-bounded w.0 };
 
     fn size(self) -> usize {
         8
