@@ -1,5 +1,4 @@
--- A value that the writer puts has 65,537 bytes at most: a part of the pool and a 00, a label, or a word. Of any pool it has 2 ^ 63
--- at most.
+-- How many bytes a value has: no more than a slice's and a 00, and where it is short, 65,537.
 use Rattle.std.specs.Prelude.{Bool, List, ℕ, ℤ, ◌++◌, ◌<◌, ◌≤◌, ◌^◌, length}
 use native.Mathlib.Omega.{arith}
 use lib.ListN.{take, drop, length-append, length-take, length-drop}
@@ -13,9 +12,9 @@ use Rattle.write_passes.specs.Moves.{ending-most}
 pub ended-most : (bs : List ℕ) (ended : Bool) → length bs ≤ 65536 → length (bs ++ ending ended) ≤ 65537
 ended-most bs ended h = omega (arith, length-append bs (ending ended), ending-most ended)
 
--- as a slice of the pool, n bytes from `start` on
-pub slice-short : (pool : List ℕ) (start n : ℕ) (ended : Bool) → length pool ≤ 65536 → length (take n (drop start pool) ++ ending ended) ≤ 65537
-slice-short pool start n ended h = let l : length (take n (drop start pool)) ≤ 65536 = simp (length-take, length-drop) (omega arith) in ended-most _ ended l
+-- a slice of the pool, n bytes from `start` on
+pub slice-short : (pool : List ℕ) (start n : ℕ) → length pool ≤ 65536 → length (take n (drop start pool)) ≤ 65536
+slice-short pool start n h = simp (length-take, length-drop) (omega arith)
 
 pub label-short : (n : ℤ) → length (label n) ≤ 65537
 label-short n = omega (arith, label-most n)

@@ -1,14 +1,17 @@
 // What a value is as bytes: a part of the pool, a label, or a word. Each says how many they are and writes them. They are no more
 // than a slice's and a 00, so that no sum of a place and them overflows.
-ghost use Rattle.std.specs.Prelude.{◌≡◌, ◌++◌, ◌+◌, ◌<◌, ◌≤◌, ◌^◌, List, ℕ, length};
+ghost use Rattle.std.specs.Prelude.{◌≡◌, ◌++◌, ◌+◌, ◌<◌, ◌≤◌, ◌^◌, List, ℕ, ⊤, length};
 ghost use Rattle.std.proofs.lemmas.List.Edits.{sets};
 ghost use Rattle.format.specs.Label.{label as label_of};
 ghost use Rattle.format.specs.Read.{ending};
 ghost use Rattle.format.specs.Write.{little_endian_bytes};
-ghost use Rattle.write_bytes.specs.Short.{ended-bounded, label-bounded, word-bounded};
+ghost use Rattle.write_bytes.specs.Short.{ended-most, label-short, word-short, ended-bounded, label-bounded, word-bounded};
 
 pub trait Encoded: Copy {
     ghost bytes: { Self → List ℕ };
+
+    // What makes a value short enough for a slot: every label and word is.
+    ghost IsShort: { Self → Type 0 };
 
     fn size(self) -> usize
         ensures value { result ≡ length (bytes self) }
@@ -19,6 +22,8 @@ pub trait Encoded: Copy {
         ensures { out.new ≡ sets out.old at (bytes self) };
 
     ghost bounded: { (x : Self) → length (bytes x) ≤ 2 ^ 63 };
+
+    ghost short_bounded: { (x : Self) → IsShort x → length (bytes x) ≤ 65537 };
 }
 
 // A part of the pool, and its ending where it is `ended` by a 00. The 00 is put and not copied: behind the part the pool may
@@ -51,7 +56,11 @@ fn copy(out: &mut [u8], at: usize, bytes: &[u8])
 impl Encoded for Part<'_> {
     ghost bytes = { λ p. p.bytes.now ++ ending p.ended };
 
+    ghost IsShort = { λ p. length p.bytes.now ≤ 65536 };
+
     ghost bounded = { λ p. ended-bounded p.bytes.now p.ended p.short };
+
+    ghost short_bounded = { λ p h. ended-most p.bytes.now p.ended h };
 
     fn size(self) -> usize {
         modes::size_with_ending(self.bytes.len(), self.ended)
@@ -69,7 +78,11 @@ impl Encoded for Part<'_> {
 impl Encoded for Label {
     ghost bytes = { λ l. label_of l.0 };
 
+    ghost IsShort = { λ l. ⊤ };
+
     ghost bounded = { λ l. label-bounded l.0 };
+
+    ghost short_bounded = { λ l h. label-short l.0 };
 
     fn size(self) -> usize {
         label::label_size(self.0)
@@ -83,7 +96,11 @@ impl Encoded for Label {
 impl Encoded for Word {
     ghost bytes = { λ w. little_endian_bytes 8 w.0 };
 
+    ghost IsShort = { λ w. ⊤ };
+
     ghost bounded = { λ w. word-bounded w.0 };
+
+    ghost short_bounded = { λ w h. word-short w.0 };
 
     fn size(self) -> usize {
         8

@@ -1,5 +1,5 @@
 // A whole row of an unlabelled value: a 0 where a label is wanted in front, and the value.
-ghost use Rattle.std.specs.Prelude.{◌<◌, ◌≤◌, ◌^◌, length};
+ghost use Rattle.std.specs.Prelude.{◌<◌, ◌^◌};
 ghost use Rattle.format.specs.Write.{unlabelled, value as value_of};
 ghost use Rattle.write_literals.specs.Words.{Good};
 ghost use Rattle.write_bytes.specs.State.{Within, EmitsEvent};
@@ -31,7 +31,7 @@ pub fn emit<B: Encoded>(
     key: usize,
     value: B,
 ) -> Result<usize, Refusal>
-    requires { (Good work.old) × (Within (2 ^ 30) core work.old) × (key < 32) × (length (B.bytes value) ≤ 65537) }
+    requires { (Good work.old) × (Within (2 ^ 30) core work.old) × (key < 32) × (B.IsShort value) }
     ensures { EmitsEvent how.put how.inline work.old work.new out.old out.new core result (unlabelled labelled (value_of key (B.bytes value))) }
 {
     let next = front(out, how.put, labelled, core)?;

@@ -1,5 +1,5 @@
 // The bytes of a value: in the core with InlineEverything, else in its key's block.
-ghost use Rattle.std.specs.Prelude.{◌≡◌, cond, ◌<◌, ◌≤◌, ◌^◌, length};
+ghost use Rattle.std.specs.Prelude.{◌≡◌, cond, ◌<◌, ◌≤◌, ◌^◌};
 ghost use Rattle.format.specs.Refusal.{answered};
 ghost use Rattle.write_literals.specs.Words.{Good, Changes};
 ghost use Rattle.write_passes.specs.Plan.{emit_bytes};
@@ -57,7 +57,7 @@ pub fn emit<B: Encoded>(
     key: usize,
     value: B,
 ) -> Result<usize, Refusal>
-    requires { (Good work.old) × (Within (2 ^ 31) core work.old) × (key < 32) × (length (B.bytes value) ≤ 65537) }
+    requires { (Good work.old) × (Within (2 ^ 31) core work.old) × (key < 32) × (B.IsShort value) }
     ensures { Emits work.old work.new out.old out.new core result (emit_bytes how.put how.inline key (B.bytes value)) }
 {
     let at = place(work, how, core, key)?;

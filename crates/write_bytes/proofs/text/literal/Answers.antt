@@ -13,7 +13,7 @@ pub returns-in_err-next : goal.returns-in_err-next
 returns-in_err-next c = rw (met c.from_residual.ensures.1) (literal-stop _ _ _ _ _ _ _ c.requires.0 c.requires.3 (puts_signed (record { sfits = c.count_label.type_inv }) c.count_label.ensures c.put_label.ensures) c.in_err-next.was)
 
 pub emit-requires : goal.emit-requires
-emit-requires c = (c.requires.0.good, record { first = omega (arith, (puts-done (puts_signed (record { sfits = c.count_label.type_inv }) c.count_label.ensures c.put_label.ensures) c.in_ok-next.was).1, label-most (pos c.args.place.size), c.requires.1.first); others = omega (arith, c.requires.1.others) }, c.requires.2, slice-short c.args.pool.now _ _ _ c.requires.0.small)
+emit-requires c = (c.requires.0.good, record { first = omega (arith, (puts-done (puts_signed (record { sfits = c.count_label.type_inv }) c.count_label.ensures c.put_label.ensures) c.in_ok-next.was).1, label-most (pos c.args.place.size), c.requires.1.first); others = omega (arith, c.requires.1.others) }, c.requires.2, slice-short c.args.pool.now _ _ c.requires.0.small)
 
 pub returns-in_err-end : goal.returns-in_err-end
 returns-in_err-end c = rw (met c.from_residual-in_err-end.ensures.1) (literal-full _ _ _ _ _ _ _ c.requires.0 c.requires.3 (puts_signed (record { sfits = c.count_label.type_inv }) c.count_label.ensures c.put_label.ensures) c.in_ok-next.was (rw (part-slice c.args.pool.now (record { start = c.args.place.start; size = c.args.place.size })) at c.emit.ensures) c.in_err-end.was)

@@ -1,6 +1,5 @@
 -- `write_row::leaf::varint` meets its contract.
 use Rattle.std.specs.Prelude.{Err}
-use Rattle.write_bytes.specs.Short.{label-short}
 use mir.Syntax.{w64}
 use mir.ValLaws.{to_z-of_z}
 use Rattle.write_row.proofs.Facts.{met, missing, found, told, varint-none, varint-some, near}
@@ -13,7 +12,7 @@ pub returns-in_err-a : goal.returns-in_err-a
 returns-in_err-a c = rw (met c.from_residual.ensures.1 ∙ ap Err (missing c.ok_or.ensures.value c.in_err-a.was).1) (varint-none c.requires.0 c.args.key c.args.node c.args.labelled (told word c.word_at.ensures.result_value (missing c.ok_or.ensures.value c.in_err-a.was).0))
 
 pub emit-requires : goal.emit-requires
-emit-requires c = (c.requires.0.ready.good, near c.requires.0, c.requires.1, label-short _)
+emit-requires c = (c.requires.0.ready.good, near c.requires.0, c.requires.1, tt)
 
 pub returns : goal.returns
 returns c =
