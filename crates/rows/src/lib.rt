@@ -42,19 +42,6 @@ pub enum Seen {
     Array(u64),
 }
 
-impl Seen {
-    // The place of a row that has one.
-    #[tactic(auto, unfolding(crate::specs::Seen::seen, crate::specs::Placed::place_of))]
-    fn place(self) -> Option<Place>
-        ensures { place result ≡ place_said (seen self) }
-    {
-        match self {
-            Seen::String(p) | Seen::Bytes(p) | Seen::Fixed(p) => Some(p),
-            _ => None,
-        }
-    }
-}
-
 // Puts row n. Its kind is the row's word, as C has it: a `Kind` would ask more of callers.
 pub fn put_row(rows: &mut [u64], n: usize, kind: u64, a: u64, b: u64, node: u64)
     requires { row_width * n + row_width ≤ length rows.old }
@@ -77,7 +64,9 @@ pub fn node_at(rows: &[u64], i: usize) -> u64
     0
 }
 
-// What row i says, whatever its node. A place, if it has one, is in bytes.
+// What row i says, whatever its node. A place, if it has one, is in bytes. Compiled into its callers, as `look` is: an
+// answer that is handed over in memory takes as long as the looking.
+#[inline(always)]
 fn found(rows: &[u64], bytes: &[u8], i: usize) -> Result<Seen, Refusal>
     ensures result_value { answered_by (seen_under (row_node rows.now i)) result ≡ found_of rows.now (length bytes.now) i }
     ensures right_case { IfOk result RightCase }
@@ -90,6 +79,7 @@ fn found(rows: &[u64], bytes: &[u8], i: usize) -> Result<Seen, Refusal>
 }
 
 // Looks at row i. Its node is what `node_at` answers.
+#[inline(always)]
 pub fn look(rows: &[u64], bytes: &[u8], i: usize) -> Result<Seen, Refusal>
     ensures result_value { answered_by (seen_under (row_node rows.now i)) result ≡ look_of rows.now (length bytes.now) i }
     ensures right_case { IfOk result RightCase }
@@ -174,13 +164,20 @@ pub fn kind_under(rows: &[u64], bytes: &[u8], node: u64, i: usize) -> Option<Kin
     Some(kind)
 }
 
-// The place of row i, whatever its node, if it has one.
+// The place of row i, whatever its node, if it has one. What else a row says is not looked at.
 pub fn place_at(rows: &[u64], bytes: &[u8], i: usize) -> Option<Place>
     ensures result_value { place result ≡ place_found (found_of rows.now (length bytes.now) i) }
     ensures inside { IfSome result (IsInside (length bytes.now)) }
 {
-    let seen = found(rows, bytes, i).ok()?;
-    seen.place()
+    if rows.len() / ROW_WIDTH <= i {
+        return None;
+    }
+    let at = ROW_WIDTH * i;
+    let kind = Kind::try_from(rows[at]).ok()?;
+    if !kind.has_place() {
+        return None;
+    }
+    look_at_place(rows[at + 1], rows[at + 2], bytes.len() as u64).ok()
 }
 
 // The part of bytes that row i names: empty where the row isn't there, is no place or points outside.
@@ -195,6 +192,7 @@ pub fn part<'a, 'b>(rows: &'a [u64], bytes: &'b [u8], i: usize) -> &'b [u8]
 }
 
 // Looks at a row's kind, a and b, where so many bytes are lent.
+#[inline(always)]
 fn look_at_words(kind: u64, a: u64, b: u64, count: u64) -> Result<Seen, Refusal>
     ensures result_value { answered_by seen result ≡ look_at_words kind a b count }
     ensures right_case { IfOk result RightCase }
