@@ -63,7 +63,6 @@ pub fn hold<W: Word>(words: &[W], wanted: &[W], lent: usize) -> bool {
 pub struct Buffers {
     pub table: [u8; 73728],
     pub bytes: [u8; 73728],
-    pub message: [u8; 73728],
     pub out: [u8; 73728],
     pub rows: [u64; 33000],
     pub wanted: [u64; 33000],

@@ -17,7 +17,7 @@ pub fn read_case(block: &mut Block, buffers: &mut Buffers) -> bool {
     let words = block.number();
     let row_words = block.number();
     let table = block.bytes(&mut buffers.table);
-    let message = block.bytes(&mut buffers.message);
+    let message = block.bytes(&mut buffers.bytes);
     let wanted = block.answer();
     let wanted_rows = block.words(&mut buffers.wanted);
     let rows = &mut buffers.rows[..];
@@ -28,6 +28,7 @@ pub fn read_case(block: &mut Block, buffers: &mut Buffers) -> bool {
     answer == wanted && hold(rows, wanted_rows, n) && hold(work, &[], k)
 }
 
+// The stored message takes the pool's place.
 pub fn write_case(block: &mut Block, buffers: &mut Buffers) -> bool {
     let words = block.number();
     let room = block.number();
@@ -36,12 +37,12 @@ pub fn write_case(block: &mut Block, buffers: &mut Buffers) -> bool {
     let rows = block.words(&mut buffers.rows);
     let pool = block.bytes(&mut buffers.bytes);
     let wanted = block.answer();
-    let message = block.bytes(&mut buffers.message);
     let out = &mut buffers.out[..];
     let n = soil(out, room);
     let work = &mut buffers.work[..];
     let k = soil(work, words);
     let answer = argo::argo_write(table, modes, rows, pool, &mut out[..n], &mut work[..k]);
+    let message = block.bytes(&mut buffers.bytes);
     answer == wanted && hold(out, message, n) && hold(work, &[], k)
 }
 
@@ -66,12 +67,12 @@ pub fn look_case(block: &mut Block, buffers: &mut Buffers) -> bool {
     answer == wanted && [seen.kind, seen.a, seen.b, seen.node] == wanted_row
 }
 
-// The part itself, and where it stands.
+// The part itself, and where it stands. The stored part takes the place of a table, which this case has not.
 pub fn part_case(block: &mut Block, buffers: &mut Buffers) -> bool {
     let index = block.number() as usize;
     let rows = block.words(&mut buffers.rows);
     let bytes = block.bytes(&mut buffers.bytes);
-    let wanted = block.bytes(&mut buffers.message);
+    let wanted = block.bytes(&mut buffers.table);
     let place = argo::argo_part(rows, bytes, index);
     let start = place.start as usize;
     let end = start + place.len as usize;

@@ -69,7 +69,6 @@ fn main(rt: HostRuntime) -> io::Result<()> {
     let mut buffers = Buffers {
         table: [0; 73728],
         bytes: [0; 73728],
-        message: [0; 73728],
         out: [0; 73728],
         rows: [0; 33000],
         wanted: [0; 33000],
