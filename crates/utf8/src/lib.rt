@@ -99,7 +99,10 @@ fn character(s: &[u8], at: usize, end: usize) -> usize
     more(s, at, end, b)
 }
 
-// Std's `from_utf8` does the same, and takes up to twice as long where letters of one byte and of more stand in turn.
+// A function of its own, and never part of another: `is_text` stays so small that it is compiled into its callers, where a
+// short text would wait for a call. Std's `from_utf8` does the same, and takes up to twice as long where letters of one byte
+// and of more stand in turn.
+#[inline(never)]
 fn are_characters(s: &[u8], start: usize, end: usize) -> bool
     requires { end ≤ length s.now }
     ensures { result ≡ is_text (slice start end s.now) }
@@ -126,8 +129,7 @@ fn is_ascii(part: &[u8]) -> bool
     all
 }
 
-// Whether the bytes from start up to end are text. It never looks past end. It is so small that it is compiled into its
-// callers: a call, even one that is hardly ever made, would cost a short text a quarter of its time.
+// Whether the bytes from start up to end are text. It never looks past end.
 #[inline(always)]
 pub fn is_text(s: &[u8], start: usize, end: usize) -> bool
     requires { end ≤ length s.now }
