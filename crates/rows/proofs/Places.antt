@@ -67,13 +67,14 @@ place-ok : (r : Result code.Place Refusal) → place (result_ok r) ≡ some_of (
 place-ok (Ok p) = refl
 place-ok (Err e) = refl
 
-some-inside : (count kind : ℕ) (p : Place) → some_of (place_inside count p) ≡ place_in kind (inside count (placed kind p))
-unfolding place_inside inside place_in is_inside need_at ◌>>◌
-some-inside count kind p = go (leb (p.start + p.size) count)
+-- told by an f that tells a place of what has one, and none of a refusal
+some-inside : (f : Answer (Says Place) → Option Place) (count kind : ℕ) (p : Place) → f (refuse 51 0) ≡ none → f (ok (placed kind p)) ≡ some p → some_of (place_inside count p) ≡ f (inside count (placed kind p))
+unfolding place_inside inside is_inside need_at ◌>>◌
+some-inside f count kind p r o = go (leb (p.start + p.size) count)
   where
-    go : (t : Bool) → some_of (need_at t 51 0 >> ok p) ≡ place_in kind (need_at t 51 0 >> ok (placed kind p))
-    go true = rw (eq-eqb kind kind refl) refl
-    go false = refl
+    go : (t : Bool) → some_of (need_at t 51 0 >> ok p) ≡ f (need_at t 51 0 >> ok (placed kind p))
+    go true = sym o
+    go false = sym r
 
 pub none-unseen : (kind : ℕ) {l : Answer (Says Place)} → (e : ℕ) × (l ≡ refuse e 0) → none ≡ place_in kind l
 unfolding place_in
@@ -98,7 +99,8 @@ module _ (ws : List ℕ) (count i node kind at : ℕ) (begins : (at ≡ row_widt
   pub row-place : (r : Result code.Place Refusal) → is_place kind ≡ true → get_or ws at 0 ≡ kind
       → answered_by part.place_of r ≡ place_inside count (record { start = get_or ws (at + 1) 0; size = get_or ws (at + 2) 0 })
       → place (result_ok r) ≡ place_in kind (found_under node ws count i)
-  row-place r p k e = place-ok r ∙ ap some_of e ∙ some-inside count kind _ ∙ sym (ap (place_in kind) (under-kind k ∙ look-both kind _ _ count (place-above kind p) p))
+  unfolding place_in
+  row-place r p k e = place-ok r ∙ ap some_of e ∙ some-inside (place_in kind) count kind _ refl (rw (eq-eqb kind kind refl) refl) ∙ sym (ap (place_in kind) (under-kind k ∙ look-both kind _ _ count (place-above kind p) p))
 
 -- one that is inside the bytes
 pub inside-ok : (count : ℕ) (p : Place) (r : Result code.Place Refusal) → answered_by part.place_of r ≡ place_inside count p → IfSome (result_ok r) (IsInside count)
@@ -109,14 +111,6 @@ inside-ok count p (Ok q) e =
 inside-ok count p (Err r) e = search rules
 
 -- The place of a row that is there, whatever its node.
-found-inside : (n count kind : ℕ) (p : Place) → some_of (place_inside count p) ≡ place_found (under_node n (inside count (placed kind p)))
-unfolding place_inside inside place_found place_of is_inside need_at ◌>>◌ ◌>>=◌
-found-inside n count kind p = go (leb (p.start + p.size) count)
-  where
-    go : (t : Bool) → some_of (need_at t 51 0 >> ok p) ≡ place_found (under_node n (need_at t 51 0 >> ok (placed kind p)))
-    go true = refl
-    go false = refl
-
 module _ (ws : List ℕ) (count i : ℕ) where
   pub place-beyond : row_count ws ≤ i → none ≡ place_found (found ws count i)
   unfolding place_found
@@ -142,8 +136,8 @@ module _ (ws : List ℕ) (count i : ℕ) where
       pub place-is : is_place kind ≡ true → (r : Result code.Place Refusal)
           → answered_by part.place_of r ≡ place_inside count (record { start = get_or ws (row_width * i + 1) 0; size = get_or ws (row_width * i + 2) 0 })
           → place (result_ok r) ≡ place_found (found ws count i)
-      unfolding said
-      place-is p r e = place-ok r ∙ ap some_of e ∙ found-inside (row_node ws i) count kind _ ∙ sym (found-kind ∙ ap said (look-both kind _ _ count (place-above kind p) p))
+      unfolding said place_found place_of ◌>>=◌
+      place-is p r e = place-ok r ∙ ap some_of e ∙ some-inside said count kind _ refl refl ∙ sym (found-kind ∙ ap said (look-both kind _ _ count (place-above kind p) p))
 
 -- The part of the bytes at it.
 pub part_none : (bytes : List ℕ) (x : Answer (Row Place)) → none ≡ place_found x → part_of bytes x ≡ []

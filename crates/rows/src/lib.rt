@@ -12,7 +12,7 @@ ghost use Rattle.format.specs.Row.{row_width, integer_row, is_place, from_words,
 ghost use Rattle.rows.specs.Kind.{word_of};
 ghost use Rattle.rows.specs.Seen.{seen, seen_under, found_under, RightCase, look_at_words, is_some};
 ghost use Rattle.rows.specs.Words.{kind_in, Begins, Shows, word, Small, kind_word};
-ghost use Rattle.rows.specs.Placed.{place_in, place_of as place_said, place_found, place_inside, place, IsInside};
+ghost use Rattle.rows.specs.Placed.{place_in, place_found, place_inside, place, IsInside};
 
 use format::{MOST_NODES, Place, ROW_WIDTH, Refusal};
 use label::words;

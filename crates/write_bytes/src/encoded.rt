@@ -27,12 +27,12 @@ pub trait Encoded: Copy {
 }
 
 // A part of the pool, and its ending where it is `ended` by a 00. The 00 is put and not copied: behind the part the pool may
-// hold anything, or end. Every slice is as `short`, so that this asks nothing of callers.
+// hold anything, or end. Every slice is so `bounded`: it asks nothing of callers.
 #[derive(Clone, Copy)]
 pub struct Part<'a> {
     pub bytes: &'a [u8],
     pub ended: bool,
-    ghost short: { length bytes.now < 2 ^ 63 },
+    ghost bounded: { length bytes.now < 2 ^ 63 },
 }
 
 #[derive(Clone, Copy)]
@@ -58,7 +58,7 @@ impl Encoded for Part<'_> {
 
     ghost IsShort = { λ p. length p.bytes.now ≤ 65536 };
 
-    ghost bounded = { λ p. ended-bounded p.bytes.now p.ended p.short };
+    ghost bounded = { λ p. ended-bounded p.bytes.now p.ended p.bounded };
 
     ghost short_bounded = { λ p h. ended-most p.bytes.now p.ended h };
 
