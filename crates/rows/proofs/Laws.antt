@@ -201,3 +201,16 @@ words-passed count (some y) {x} e =
 pub words_inside : (kind a b count : ℕ) {k : ℕ} {p : Place} → look_at_words kind a b count ≡ ok (placed k p) → p.start + p.size ≤ count
 unfolding look_at_words is_inside
 words_inside kind a b count {k} {p} e = leb-true (p.start + p.size) count (words-passed count (from_words kind a b) e)
+
+row-passed : (count : ℕ) (o : Option (Row Place)) {r : Row Place} → (or_refuse o 51 0 >>= (λ q. need_at (is_inside count q.says) 51 0 >> ok q)) ≡ ok r → is_inside count r.says ≡ true
+unfolding ◌>>=◌ or_refuse
+row-passed count none e = absurd (let z : ◌≡◌ {A = ℕ} 0 1 = cc in omega arith)
+row-passed count (some q) {r} e =
+    let (t, f) = need-ok (is_inside count q.says) 51 0 (ok q) e in
+    let g : q ≡ r = cc in
+    ap (λ y. is_inside count y.says) (sym g) ∙ t
+
+pub found_inside : (ws : List ℕ) (count i : ℕ) {n kind : ℕ} {p : Place} → found ws count i ≡ ok (row n (placed kind p)) → p.start + p.size ≤ count
+unfolding found is_inside
+found_inside ws count i {n} {kind} {p} e =
+    leb-true (p.start + p.size) count (row-passed count (row_at ws i) (need-ok (ltb i (row_count ws)) 50 0 _ e).1)

@@ -8,7 +8,7 @@ use native.Mathlib.Omega.{arith}
 use lib.Dec.{leb, eqb}
 use lib.ListN.{get_or}
 use borrow.Author.Tests.{leb-true, leb-false, eq-eqb, ne_eqb}
-use Rattle.std.specs.Prelude.{Result, Ok, Err, IfSome}
+use Rattle.std.specs.Prelude.{Option as Optional, Some, None, Result, Ok, Err, IfSome}
 use Rattle.std.specs.Result.{result_ok}
 use Rattle.std.proofs.Common.{rules}
 use Rattle.format.specs.Part as part
@@ -16,11 +16,12 @@ use Rattle.format.specs.Refusal.{answered_by}
 use Rattle.format.specs.declared.refusal.Refusal.{Refusal}
 use Rattle.format.specs.declared.place.Place as code
 use Rattle.format.specs.Answer.{Answer, ok, refuse, ◌>>=◌, ◌>>◌, need_at, or_refuse}
-use Rattle.format.specs.Row.{Says, bare, placed, Row, Place, bytes_at, true_row, string_row, array_row, is_place, is_inside, from_words, row_width, row_count, row_node, found, says_part, part_of}
+use Rattle.format.specs.Row.{Says, bare, placed, Row, row, Place, bytes_at, true_row, string_row, array_row, is_place, is_inside, from_words, row_width, row_count, row_node, found, says_part, part_of}
 use Rattle.laws.specs.Facts.{by_bool, and-true, ok_same, need-ok, absurd-some, some_same}
-use Rattle.rows.specs.Seen.{found_under, inside, look_at_words, is_some}
+use Rattle.rows.specs.declared.Seen.{Seen}
+use Rattle.rows.specs.Seen.{seen, seen_under, found_under, inside, look_at_words, is_some}
 use Rattle.rows.specs.Placed.{place_in, place_of, place_found, place_inside, place, IsInside}
-use Rattle.rows.proofs.Laws.{from-none, from_one, look-both, look-no-row, under-row, under_node, found-beyond, found-row}
+use Rattle.rows.proofs.Laws.{from-none, from_one, look-both, look-no-row, under-row, under_node, found-beyond, found-row, found_inside}
 
 -- A row of a kind that has a place: its words are its place.
 pub place-above : (kind : ℕ) → is_place kind ≡ true → true_row < kind
@@ -138,6 +139,39 @@ module _ (ws : List ℕ) (count i : ℕ) where
           → place (result_ok r) ≡ place_found (found ws count i)
       unfolding said place_found place_of ◌>>=◌
       place-is p r e = place-ok r ∙ ap some_of e ∙ some-inside said count kind _ refl refl ∙ sym (found-kind ∙ ap said (look-both kind _ _ count (place-above kind p) p))
+
+-- The place of a row that was found, whatever its kind and node.
+row-of : (x : Answer (Row Place)) {p : Place} → some p ≡ place_found x → (n : ℕ) × (k : ℕ) × (x ≡ ok (row n (placed k p)))
+unfolding place_found place_of
+row-of (ok r) {p} e = go r.says e
+  where
+    go : (y : Says Place) → some p ≡ place_of y → (n : ℕ) × (k : ℕ) × (ok (row r.node y) ≡ ok (row n (placed k p)))
+    go (bare k a) z = absurd-some (sym z)
+    go (placed k q) z = (r.node, k, ap (λ (x : Place). ok (row r.node (placed k x))) (some_same (sym z)))
+row-of (refuse n j) e = absurd-some (sym e)
+
+module _ (ws : List ℕ) (count i n : ℕ) (r : Result Seen Refusal) (e : answered_by (seen_under n) r ≡ found ws count i) where
+  pub found-not : result_ok r ≡ None → none ≡ place_found (found ws count i)
+  unfolding place_found
+  found-not q = go r e q
+    where
+      go : (r : Result Seen Refusal) → answered_by (seen_under n) r ≡ found ws count i → result_ok r ≡ None → none ≡ place_found (found ws count i)
+      go (Ok s) e q = absurd cc
+      go (Err x) e q = ap place_found e
+
+  pub found_at : {s : Seen} (o : Optional code.Place) → result_ok r ≡ Some s → place o ≡ place_of (seen s) → (place o ≡ place_found (found ws count i)) × IfSome o (IsInside count)
+  unfolding place_found
+  found_at {s} o q p =
+      let z : place o ≡ place_found (found ws count i) = go r e q in
+      (z, within o z)
+    where
+      go : (r : Result Seen Refusal) → answered_by (seen_under n) r ≡ found ws count i → result_ok r ≡ Some s → place o ≡ place_found (found ws count i)
+      go (Ok t) e q = let g : t ≡ s = cc in p ∙ ap (λ (x : Seen). place_of (seen x)) (sym g) ∙ ap place_found e
+      go (Err x) e q = absurd cc
+
+      within : (o : Optional code.Place) → place o ≡ place_found (found ws count i) → IfSome o (IsInside count)
+      within (Some p) z = let (m, k, f) = row-of (found ws count i) z in found_inside ws count i f
+      within None z = search rules
 
 -- The part of the bytes at it.
 pub part_none : (bytes : List ℕ) (x : Answer (Row Place)) → none ≡ place_found x → part_of bytes x ≡ []
