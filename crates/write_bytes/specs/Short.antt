@@ -25,6 +25,9 @@ word-short word = omega (arith, little-length 8 word)
 pub ended-bounded : (bs : List ℕ) (ended : Bool) → length bs < 2 ^ 63 → length (bs ++ ending ended) ≤ 2 ^ 63
 ended-bounded bs ended h = omega (arith, length-append bs (ending ended), ending-most ended)
 
+pub short-bounded : (bs : List ℕ) → length bs ≤ 65537 → length bs ≤ 2 ^ 63
+short-bounded bs h = omega arith
+
 pub label-bounded : (n : ℤ) → length (label n) ≤ 2 ^ 63
 label-bounded n = omega (arith, label-short n)
 

@@ -3,7 +3,8 @@ ghost use Rattle.std.specs.Prelude.{◌≡◌, ltb, pos, ◌<◌, ◌^◌, lengt
 ghost use Rattle.format.specs.Label.{label as label_of};
 ghost use Rattle.write_bytes.specs.State.{Puts};
 
-use super::encoded::{Encoded, Label};
+use super::as_bytes::AsBytes;
+use super::encoded::Label;
 use format::Refusal;
 
 // A length as a label.
@@ -21,7 +22,7 @@ fn is_over(out: &[u8], end: usize) -> bool
     out.len() < end
 }
 
-pub fn put_bytes<B: Encoded>(
+pub fn put_bytes<B: AsBytes>(
     out: &mut [u8],
     put: bool,
     at: usize,

@@ -11,7 +11,7 @@ ghost use Rattle.write_search.specs.Search.{number as number_in, texts_of, AreLi
 ghost use Rattle.write_bytes.specs.State.{plan_of, Ready, Within};
 ghost use Rattle.write_bytes.specs.Text.{kept, EmitsText};
 
-use super::encoded::Part;
+use super::as_bytes::Slice;
 use super::{Pass, bytes, value};
 use format::{Place, Refusal};
 use write_search::Found;
@@ -77,7 +77,7 @@ fn literal(
 {
     let next = bytes::put_label(out, how.put, core, bytes::count_label(place.size))?;
     let bytes = &pool[place.start..place.start + place.size];
-    let end = value::emit(out, work, how, next, key, Part { bytes, ended })?;
+    let end = value::emit_short(out, work, how, next, key, Slice { bytes, ended })?;
     keep(work, numbered, key, first, second);
     Ok(end)
 }

@@ -6,6 +6,7 @@ ghost use Rattle.write_passes.specs.Plan.{emit_bytes};
 ghost use Rattle.write_bytes.specs.State.{slots_of, Within, Emits};
 ghost use Rattle.write_bytes.specs.Value.{place_of, moved_to, HasPlace};
 
+use super::as_bytes::AsBytes;
 use super::encoded::Encoded;
 use super::{Pass, bytes};
 use format::Refusal;
@@ -48,8 +49,8 @@ fn move_to(work: &mut [u32], how: Pass, core: usize, key: usize, at: usize) -> u
     core
 }
 
-// A value of a key. Where it ends is to fit a slot.
-pub fn emit<B: Encoded>(
+// A value of a key, of any type that is `AsBytes`. It must be short, so that where it ends fits a slot.
+pub fn emit_short<B: AsBytes>(
     out: &mut [u8],
     work: &mut [u32],
     how: Pass,
@@ -63,4 +64,19 @@ pub fn emit<B: Encoded>(
     let at = place(work, how, core, key)?;
     let end = bytes::put_bytes(out, how.put, at, value)?;
     Ok(move_to(work, how, core, key, end))
+}
+
+// An encoded value of a key: each is short.
+pub fn emit<B: Encoded>(
+    out: &mut [u8],
+    work: &mut [u32],
+    how: Pass,
+    core: usize,
+    key: usize,
+    value: B,
+) -> Result<usize, Refusal>
+    requires { (Good work.old) × (Within (2 ^ 31) core work.old) × (key < 32) }
+    ensures { Emits work.old work.new out.old out.new core result (emit_bytes how.put how.inline key (B.bytes value)) }
+{
+    emit_short(out, work, how, core, key, value)
 }

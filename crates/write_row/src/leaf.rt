@@ -15,7 +15,8 @@ use format::{Place, Refusal};
 use label::words;
 use rows::Kind;
 use table::nodes::Leaf;
-use write_bytes::encoded::{Label, Part, Word};
+use write_bytes::as_bytes::Slice;
+use write_bytes::encoded::{Label, Word};
 use write_bytes::{Pass, event, text};
 
 // Whether a text may be written: it is UTF-8, or `exempt` says that it is not to be judged.
@@ -88,7 +89,7 @@ fn varint(
     let value = Label(words::integer_of(a));
     next(
         at.row,
-        event::emit(out, work, how, labelled, at.core, key, value),
+        event::emit_short(out, work, how, labelled, at.core, key, value),
     )
 }
 
@@ -109,7 +110,7 @@ fn float64(
     let a = row::word_at(rows, pool, node, Kind::Float, at.row).ok_or(Refusal::Unfit(at.row))?;
     next(
         at.row,
-        event::emit(out, work, how, labelled, at.core, key, Word(a)),
+        event::emit_short(out, work, how, labelled, at.core, key, Word(a)),
     )
 }
 
@@ -134,13 +135,13 @@ fn fixed(
         return Err(Refusal::Unfit(at.row));
     }
     let bytes = &pool[start..start + size];
-    let value = Part {
+    let value = Slice {
         bytes,
         ended: false,
     };
     next(
         at.row,
-        event::emit(out, work, how, labelled, at.core, key, value),
+        event::emit_short(out, work, how, labelled, at.core, key, value),
     )
 }
 

@@ -17,8 +17,8 @@ returns-in_err-start c = rw (met c.from_residual.ensures.1 ∙ ap Err (missing c
 pub returns-then-size-n : goal.returns-then-size-n
 returns-then-size-n c = fixed-long c.requires.0 c.args.key c.args.node c.args.labelled c.args.n (told place (rw c.from.ensures at c.place_under-place.ensures.result_value) (found c.ok_or.ensures.ok_part c.in_ok-start.was)) (placed (found c.ok_or.ensures.ok_part c.in_ok-start.was) c.place_under-place.ensures.inside) c.if-size-n.true
 
-pub emit-requires : goal.emit-requires
-emit-requires c = (c.requires.0.ready.good, near c.requires.0, c.requires.1, slice-short c.args.pool.now _ _ c.requires.0.ready.small)
+pub emit_short-requires : goal.emit_short-requires
+emit_short-requires c = (c.requires.0.ready.good, near c.requires.0, c.requires.1, slice-short c.args.pool.now _ _ c.requires.0.ready.small)
 
 pub returns : goal.returns
-returns c = fixed-some c.requires.0 c.args.key c.args.node c.args.labelled c.args.n (told place (rw c.from.ensures at c.place_under-place.ensures.result_value) (found c.ok_or.ensures.ok_part c.in_ok-start.was)) (placed (found c.ok_or.ensures.ok_part c.in_ok-start.was) c.place_under-place.ensures.inside) c.if-size-n.false (rw (part-slice c.args.pool.now (record { start = c.in_ok-start.field-0.start; size = c.in_ok-start.field-0.size })) at c.emit.ensures) c.next.ensures
+returns c = fixed-some c.requires.0 c.args.key c.args.node c.args.labelled c.args.n (told place (rw c.from.ensures at c.place_under-place.ensures.result_value) (found c.ok_or.ensures.ok_part c.in_ok-start.was)) (placed (found c.ok_or.ensures.ok_part c.in_ok-start.was) c.place_under-place.ensures.inside) c.if-size-n.false (rw (part-slice c.args.pool.now (record { start = c.in_ok-start.field-0.start; size = c.in_ok-start.field-0.size })) at c.emit_short.ensures) c.next.ensures

@@ -1,6 +1,6 @@
--- `Part::write` meets its contract.
+-- `Slice::write` meets its contract.
 use Rattle.write_bytes.proofs.Stores.{part_plain, part-room, part_ended}
-use Rattle.write_bytes.proofs.encoded.PartEncoded.write.Goals as goal
+use Rattle.write_bytes.proofs.as_bytes.SliceAsBytes.write.Goals as goal
 
 pub returns-then-not-self : goal.returns-then-not-self
 returns-then-not-self c = part_plain c.args.out.now c.args.at c.args.self.bytes.now c.args.self.ended c.copy.ensures c.requires c.if-not-self.true
