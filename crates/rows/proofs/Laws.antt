@@ -13,7 +13,7 @@ use Rattle.format.specs.Answer.{Answer, ok, refuse, ◌>>=◌, ◌>>◌, need_at
 use Rattle.format.specs.Refusal.{answered_by}
 use Rattle.format.specs.declared.refusal.Refusal.{Refusal}
 use Rattle.format.specs.Row.{Says, bare, placed, Row, row, Place, true_row, string_row, fixed_row, array_row, is_place, is_inside, from_words, row_width, row_count, row_node, under, row_at, found, look}
-use Rattle.laws.specs.Facts.{by-lt, need-ok}
+use Rattle.laws.specs.Facts.{by-lt, need-ok, bind_ok, ok_same}
 use Rattle.rows.specs.declared.Seen.{Seen}
 use Rattle.rows.specs.Placed.{place_inside}
 use Rattle.rows.specs.Seen.{seen, seen_under, found_under, inside, look_at_words, is_some}
@@ -202,15 +202,9 @@ pub words_inside : (kind a b count : ℕ) {k : ℕ} {p : Place} → look_at_word
 unfolding look_at_words is_inside
 words_inside kind a b count {k} {p} e = leb-true (p.start + p.size) count (words-passed count (from_words kind a b) e)
 
-row-passed : (count : ℕ) (o : Option (Row Place)) {r : Row Place} → (or_refuse o 51 0 >>= (λ q. need_at (is_inside count q.says) 51 0 >> ok q)) ≡ ok r → is_inside count r.says ≡ true
-unfolding ◌>>=◌ or_refuse
-row-passed count none e = absurd (let z : ◌≡◌ {A = ℕ} 0 1 = cc in omega arith)
-row-passed count (some q) {r} e =
-    let (t, f) = need-ok (is_inside count q.says) 51 0 (ok q) e in
-    let g : q ≡ r = cc in
-    ap (λ y. is_inside count y.says) (sym g) ∙ t
-
 pub found_inside : (ws : List ℕ) (count i : ℕ) {n kind : ℕ} {p : Place} → found ws count i ≡ ok (row n (placed kind p)) → p.start + p.size ≤ count
 unfolding found is_inside
 found_inside ws count i {n} {kind} {p} e =
-    leb-true (p.start + p.size) count (row-passed count (row_at ws i) (need-ok (ltb i (row_count ws)) 50 0 _ e).1)
+    let (q, g, f) = bind_ok (or_refuse (row_at ws i) 51 0) _ (need-ok (ltb i (row_count ws)) 50 0 _ e).1 in
+    let (t, z) = need-ok (is_inside count q.says) 51 0 (ok q) f in
+    leb-true (p.start + p.size) count (ap (λ (r : Row Place). is_inside count r.says) (sym (ok_same z)) ∙ t)
